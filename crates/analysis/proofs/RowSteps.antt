@@ -1,8 +1,8 @@
 -- What each row matches, step by step, as its finder goes through it.
 use Rattle.std.specs.Prelude.{Option, Some, None, is_some}
-use Rattle.laws.proofs.Prelude.{◌≡◌, refl, sym, ap, ◌∙◌, true, false, true≢false, cond, List, [], ◌∷◌, flat_map, none-ne-some, ℕ, zero, suc, ◌+◌, ◌<◌}
+use Rattle.laws.proofs.Prelude.{◌≡◌, refl, sym, ap, ◌∙◌, true, false, true≢false, cond, List, [], ◌∷◌, flat_map, none-some, ℕ, zero, suc, ◌+◌, ◌<◌}
 use Rattle.laws.proofs.Prelude.{arith, ltb, drop, le-ltb, lt-ltb}
-use Rattle.laws.proofs.Options.{some-injective}
+use Rattle.std.proofs.lemmas.Option.{same_Some}
 use lib.Dec.{eqb-suc-zero}
 use Rattle.laws.specs.Ascii.{ascii}
 use Rattle.text.specs.declared.class.Class.TheVariants.{White, NotWhite, WhiteOrStar, NotLf, Quote, NotQuote, SourceMark}
@@ -25,12 +25,12 @@ on None h = refl
 
 -- a character of n bytes at a place, and none
 pub some_there : (at n : ℕ) {e : ℕ} → Some e ≡ behind at n → (n ≡ 0 → ⊥) × (e ≡ at + n)
-some_there at zero e = absurd (none-ne-some _ (sym e))
-some_there at (suc n) {e = d} e = (λ z. omega arith, some-injective d (at + suc n) (rw (eqb-suc-zero n) at e))
+some_there at zero e = absurd (none-some _ (sym e))
+some_there at (suc n) {e = d} e = (λ z. omega arith, same_Some d (at + suc n) (rw (eqb-suc-zero n) at e))
 
 pub none_there : (at n : ℕ) → None ≡ behind at n → n ≡ 0
 none_there at zero e = refl
-none_there at (suc n) e = absurd (none-ne-some _ (rw (eqb-suc-zero n) at e))
+none_there at (suc n) e = absurd (none-some _ (rw (eqb-suc-zero n) at e))
 
 -- what the classes of the longest runs are apart from
 closes : Apart NotQuote (to (one Quote done))

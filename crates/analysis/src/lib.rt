@@ -18,7 +18,7 @@ use self::matcher::{
 use text::class::{Class, run_end};
 
 // What a match captured: from one place of the body to another, and whether marks stand around it. The Rust's `is_quoteless` is the opposite.
-#[derive(Clone, Copy)]
+#[derive(Clone, Copy, Default)]
 pub struct Capture {
     pub quoted: bool,
     pub from: usize,

@@ -29,7 +29,7 @@ fn fold_case(code: u32) -> u32
 fn wide_letter_at(s: &[u8], letter: u8) -> usize
     ensures { Bounded (result ≡ letter_at letter s.now) (result ≤ length s.now) }
 {
-    let c = char_at(s, 0, Encoding::Utf8);
+    let c = char_at(s, Encoding::Utf8);
     if fold_case(c.code) == fold_case(u32::from(letter)) {
         c.len
     } else {
@@ -56,7 +56,7 @@ pub fn one_at(s: &[u8], at: usize, class: Class) -> Option<usize>
     requires { at ≤ length s.now }
     ensures { Bounded (result ≡ one_at class s.now at) (EndsBy result (length s.now)) }
 {
-    let n = class_at(s, at, class);
+    let n = class_at(&s[at..], class);
     if n == 0 {
         return None;
     }

@@ -1,29 +1,28 @@
 -- Pairs in the first rows of a table: how many there are, one instead of another or before it, and the bytes of each.
 use Rattle.laws.proofs.Prelude.{◌≡◌, sym, ap, ◌∙◌, List, append_assoc, append-nil, flat_map, map, ℕ, ◌+◌, ◌-◌, ◌≤◌, ◌<◌, arith, length, get_or, set, take, drop}
-use Rattle.laws.proofs.Prelude.{length-drop, length-take, length-take-le}
+use Rattle.laws.proofs.Prelude.{length-drop, length-take, length-take-le, drop_of_length-le, take-append_seam, length-append, ◌++◌}
 use Rattle.laws.proofs.Lists.{flat_map_append}
 use Rattle.report.specs.{declared.writer.Writer.Writer, ModuleInfo.KeyValue, Encode.encode_key_value, Buffer.Wrote}
 use Rattle.report.proofs.Buffers.{more_append}
 use Rattle.attributes.specs.declared.pairs.Pair.{Pair}
 use Rattle.attributes.specs.code.Rows.{pair_as, pairs_in}
 use Rattle.std.specs.List as list
+use borrow.Rule.Slice.PartMut.{post_of}
 use Rattle.std.proofs.Math.Seq.{paste, take-set-lt}
 use Rattle.std.proofs.lemmas.List.{set-append_left, take_more, take_more_set, take-take, get_or-map, length-map, map-set, map-append, take-map, drop-map}
-use Rattle.std.proofs.lemmas.List.Edits.{take-paste}
 use Rattle.std.proofs.lemmas.Slice.{between_is}
 
--- the rows from the ith on moved up by one, and a pair stored there
-pub row_opened : {A : Type 0} (t : List A) (n i : ℕ) (p : A) → i ≤ n → n < length t
-    → take (n + 1) (set (paste t (i + 1) (drop i t) (n - i)) i p) ≡ list.insert (take n t) i p
-row_opened t n i p h l =
-    let k : n - i ≤ length (drop i t) = simp length-drop (omega arith) in
-    let moved = take-paste t (i + 1) (drop i t) (n - i) (omega arith) k in
-    let to : n + 1 ≡ i + 1 + (n - i) = omega arith in
+-- the rows from the ith on moved up by one, over the last, and a pair stored there
+pub row_opened : {A : Type 0} (t : List A) (i : ℕ) (p : A) → i < length t
+    → set (paste t (i + 1) (drop i t) (length t - 1 - i)) i p ≡ list.insert (take (length t - 1) t) i p
+row_opened t i p h =
+    let n = length t - 1 in
+    let moved : paste t (i + 1) (drop i t) (n - i) ≡ take (i + 1) t ++ take (n - i) (drop i t) =
+    rw (drop_of_length-le t {i = i + 1 + (n - i)} (omega arith), append-nil) in
     let in' : i < length (take (i + 1) t) = rw (length-take-le (i + 1) t (omega arith)) (omega arith) in
-    take-set-lt (n + 1) (paste t (i + 1) (drop i t) (n - i)) i p (omega arith)
-    ∙ ap (λ l. set l i p) (rw to moved)
+    ap (λ l. set l i p) moved
     ∙ set-append_left (take (i + 1) t) (take (n - i) (drop i t)) i p in'
-    ∙ rw (← take-set-lt (i + 1) t i p (omega arith), take_more_set t i p (omega arith), append_assoc, between_is t i n, take-take i n t)
+    ∙ rw (← take-set-lt (i + 1) t i p (omega arith), take_more_set t i p h, append_assoc, between_is t i n, take-take i n t (omega arith))
 
 -- in rows that hold the pairs l
 module _ (rows : List Pair) (l : List KeyValue) (e : map pair_as rows ≡ l) where
@@ -46,10 +45,21 @@ module _ (rows : List Pair) (n : ℕ) (l : List KeyValue) (e : pairs_in rows n �
       let below : i < n = omega (arith, length-map (take n rows) pair_as, length-take n rows) in
       rw (take-set-lt n rows i p below, map-set pair_as (take n rows) i p, e)
 
-  -- one before it
-  pub insert_pairs : (i : ℕ) (p : Pair) (rows' : List Pair) → take (n + 1) rows' ≡ list.insert (take n rows) i p
-      → pairs_in rows' (n + 1) ≡ list.insert l i (pair_as p)
-  insert_pairs i p rows' opened = rw (opened, ← e) (simp (map-append, take-map, drop-map))
+  -- in the first n + 1 of them others
+  pub opened_length : (opened : List Pair) → n < length rows → length opened ≡ length (take (n + 1) rows)
+      → length (opened ++ post_of 0 (n + 1) rows) ≡ length rows
+  opened_length opened more long =
+      omega (arith, length-append opened (post_of 0 (n + 1) rows), length-drop (n + 1) rows, length-take-le (n + 1) rows (omega arith))
+
+  -- one before it, over the row behind them
+  pub insert_pairs : (i : ℕ) (p : Pair) (opened others : List Pair) → n < length rows → length opened ≡ length (take (n + 1) rows)
+      → opened ≡ list.insert (take (length (take (n + 1) rows) - 1) (take (n + 1) rows)) i p
+      → pairs_in (opened ++ others) (n + 1) ≡ list.insert l i (pair_as p)
+  insert_pairs i p opened others more long is =
+      let wide : length (take (n + 1) rows) ≡ n + 1 = length-take-le (n + 1) rows (omega arith) in
+      let last : length (take (n + 1) rows) - 1 ≡ n = omega arith in
+      let all : length opened ≡ n + 1 = long ∙ wide in
+      rw (← all, take-append_seam, rw (last, take-take n (n + 1) rows (omega arith)) at is, ← e) (simp (map-append, take-map, drop-map))
 
 -- the bytes of one more pair
 pub one_more : (before now after : Writer) (rows : List Pair) (i : ℕ) (d : Pair) → i < length rows

@@ -1,5 +1,5 @@
 // Pairs of keys and values in a table, with keys that ascend.
-ghost use Rattle.std.specs.Prelude.{◌≡◌, [], ◌+◌, ◌≤◌, ◌<◌, get_or, length, take, map};
+ghost use Rattle.std.specs.Prelude.{◌≡◌, [], ◌-◌, ◌<◌, get_or, length, take, map};
 ghost use Rattle.std.specs.List as list;
 ghost use Rattle.laws.specs.code.Told.{Told, Bounded};
 ghost use Rattle.sheet.specs.Limits.{property_limit};
@@ -13,7 +13,7 @@ use sheet::limits::PROPERTY_LIMIT;
 use std::marker::Model;
 
 // A key, and, if it is known, its value.
-#[derive(Clone, Copy)]
+#[derive(Clone, Copy, Default)]
 pub struct Pair<'a> {
     pub key: &'a [u8],
     pub value: Option<&'a [u8]>,
@@ -42,13 +42,13 @@ impl<'a> Model for Pairs<'a> {
         × Ascends (pairs_in p.rows p.n) };
 }
 
-// Puts a pair before the ith of n rows, and moves the others up.
+// Puts a pair before the ith, and moves the others up over the last.
 #[tactic(auto, using(crate::proofs::PairRows::row_opened))]
-fn insert_before<'a>(rows: &mut [Pair<'a>], n: usize, i: usize, p: Pair<'a>)
-    requires { (i ≤ n) × (n < length rows.old) }
-    ensures { take (n + 1) rows.new ≡ list.insert (take n rows.old) i p.entry }
+fn insert_before<'a>(rows: &mut [Pair<'a>], i: usize, p: Pair<'a>)
+    requires { i < length rows.old }
+    ensures { rows.new ≡ list.insert (take (length rows.old - 1) rows.old) i p.entry }
 {
-    rows.copy_within(i..n, i + 1);
+    rows.copy_within(i..rows.len() - 1, i + 1);
     rows[i] = p;
 }
 
@@ -56,12 +56,8 @@ impl<'a> Pairs<'a> {
     pub fn new() -> Pairs<'a>
         ensures { result ≡ [] }
     {
-        let blank = Pair {
-            key: &[],
-            value: None,
-        };
         Pairs {
-            rows: [blank; PROPERTY_LIMIT],
+            rows: [Pair::default(); PROPERTY_LIMIT],
             n: 0,
         }
     }
@@ -105,7 +101,7 @@ impl<'a> Pairs<'a> {
     }
 
     // Puts a pair in its place, instead of one with the same key.
-    #[tactic(auto, using(crate::proofs::PairRows::set_pairs, crate::proofs::PairRows::insert_pairs, crate::proofs::PairRows::rows_filled, crate::proofs::Ascending::insert_ascends))]
+    #[tactic(auto, using(crate::proofs::PairRows::set_pairs, crate::proofs::PairRows::insert_pairs, crate::proofs::PairRows::opened_length, crate::proofs::PairRows::rows_filled, crate::proofs::Ascending::insert_ascends))]
     pub fn insert(&mut self, p: Pair<'a>)
         requires { length self.old < property_limit }
         ensures { self.new ≡ insert (pair_as p.entry) self.old }
@@ -113,9 +109,9 @@ impl<'a> Pairs<'a> {
         match self.find(p) {
             Ok(same) => self.rows[same] = p,
             Err(i) => {
-                let n = self.n;
-                insert_before(&mut self.rows, n, i, p);
-                self.n += 1;
+                let n = self.n + 1;
+                insert_before(&mut self.rows[..n], i, p);
+                self.n = n;
             }
         }
     }

@@ -1,8 +1,10 @@
 -- Characters of four bytes, counted from the start of a line.
-use Rattle.laws.proofs.Prelude.{◌≡◌, refl, ap, ◌∙◌, Bool, true, false, cond, List, [], ◌∷◌, ◌++◌, ℕ, zero, suc, ◌+◌, ◌-◌, ◌≤◌, ◌<◌, add-one, arith, eqb}
-use Rattle.laws.proofs.Prelude.{length, get_or, take, drop, drop_of_length-le, drop-cons, eq-eqb, ne_eqb}
-use lib.ListN.{take-append-drop}
-use Rattle.laws.{specs.Codec.All, proofs.Onward.carried_to}
+use Rattle.laws.proofs.Prelude.{◌≡◌, refl, sym, ap, ◌∙◌, Bool, true, false, cond, List, [], ◌∷◌, ◌++◌, ℕ, zero, suc, ◌+◌, ◌-◌, ◌≤◌, ◌<◌, add-one, arith, eqb}
+use Rattle.laws.proofs.Prelude.{length, get_or, take, drop, drop-cons, eq-eqb, ne_eqb}
+use lib.{ListN.take-append-drop, Seq.drop-length}
+use Rattle.std.specs.Prelude.{not, filter, count_by}
+use Rattle.std.proofs.lemmas.List.Sums.{length-filter, sum_by-cons}
+use Rattle.laws.specs.Codec.{All}
 use Rattle.text.specs.{declared.position.Position.Position, Ranges.within, Utf8.continuation, code.Places.First}
 use Rattle.citation.specs.Columns.{begins_four, from_line, fours_in, recounted}
 
@@ -20,10 +22,6 @@ fours_most (suc n) (b ∷ s) = by (within continuation b) (begins_four b) (fours
 
 pub fours_none : (s : List ℕ) → fours_in 0 s ≡ 0
 fours_none s = omega (arith, fours_most 0 s)
-
-fours_past : (n : ℕ) → fours_in n [] ≡ 0
-unfolding fours_in
-fours_past n = refl
 
 -- a byte that goes on with a character, and one that begins a character
 pub fours_on : (n b : ℕ) (s : List ℕ) → within continuation b ≡ true → fours_in n (b ∷ s) ≡ fours_in n s
@@ -53,16 +51,14 @@ from_none : (n : ℕ) → from_line n [] ≡ []
 unfolding from_line
 from_none n = refl
 
--- up to the first LF
-from_end : (n : ℕ) (s : List ℕ) (at end : ℕ) → at ≤ end → end ≤ length s → ((k : ℕ) → at ≤ k → k < end → get_or s k 0 ≡ 0x0A → ⊥)
-    → from_line (suc n) (drop at s) ≡ from_line (suc n) (drop end s)
-from_end n s at end l h none =
-    carried_to (λ k. from_line (suc n) (drop at s) ≡ from_line (suc n) (drop k s)) at end l refl
-    (λ k a b e.
-    let i : k < length s = omega arith in
-    let step : from_line (suc n) (drop k s) ≡ from_line (suc n) (drop (k + 1) s) =
-    rw (add-one, drop-cons s k 0 i) (from_on n (get_or s k 0) (drop (suc k) s) (ne_eqb (get_or s k 0) 0x0A (none k a b))) in
-    e ∙ step)
+-- past bytes that are no LF
+from_end : (n : ℕ) (s : List ℕ) (end : ℕ) → end ≤ length s → ((k : ℕ) → 0 ≤ k → k < end → get_or s k 0 ≡ 0x0A → ⊥)
+    → from_line (suc n) s ≡ from_line (suc n) (drop end s)
+from_end n s zero l none = refl
+from_end n [] (suc end) l none = absurd (omega arith)
+from_end n (b ∷ s) (suc end) l none =
+    from_on n b s (ne_eqb b 0x0A (none 0 (omega arith) (omega arith)))
+    ∙ from_end n s end (omega arith) (λ k g h. none (suc k) (omega arith) (omega arith))
 
 -- ---- as the code goes
 
@@ -70,33 +66,41 @@ from_end n s at end l h none =
 pub this_line : (n : ℕ) (s : List ℕ) → n ≡ 0 → from_line n s ≡ s
 this_line n s none = rw (none, from_zero)
 
-pub next_line : (n less : ℕ) (s : List ℕ) (at end : ℕ) → n ≡ less + 1 → First 0x0A s at end → end < length s
-    → from_line n (drop at s) ≡ from_line less (drop (end + 1) s)
-next_line n less s at end more f i =
+pub next_line : (n less : ℕ) (s : List ℕ) (end : ℕ) → n ≡ less + 1 → First 0x0A s 0 end → end < length s
+    → from_line n s ≡ from_line less (drop (end + 1) s)
+next_line n less s end more f i =
     let one : n ≡ suc less = omega arith in
-    ap (λ (k : ℕ). from_line k (drop at s)) one
-    ∙ from_end less s at end f.passed.from f.passed.to f.passed.each
+    ap (λ (k : ℕ). from_line k s) one
+    ∙ from_end less s end f.passed.to f.passed.each
     ∙ rw (drop-cons s end 0 i, add-one) (from_next less (get_or s end 0) (drop (suc end) s) (eq-eqb (get_or s end 0) 0x0A (f.there i)))
 
-pub no_line : (n : ℕ) (s : List ℕ) (at end : ℕ) → 0 < n → First 0x0A s at end → length s ≤ end → from_line n (drop at s) ≡ drop end s
-no_line n s at end some f i =
+pub no_line : (n : ℕ) (s : List ℕ) → 0 < n → First 0x0A s 0 (length s) → from_line n s ≡ []
+no_line n s some f =
     let more : n ≡ suc (n - 1) = omega arith in
-    ap (λ (k : ℕ). from_line k (drop at s)) more
-    ∙ from_end (n - 1) s at end f.passed.from f.passed.to f.passed.each
-    ∙ rw (drop_of_length-le s i) (from_none (suc (n - 1)))
+    ap (λ (k : ℕ). from_line k s) more
+    ∙ from_end (n - 1) s (length s) f.passed.to f.passed.each
+    ∙ rw drop-length (from_none (suc (n - 1)))
 
--- past a byte that goes on with a character, and past one that begins a character
-pub fours_kept : (n : ℕ) (s : List ℕ) (i : ℕ) → i < length s → within continuation (get_or s i 0) ≡ true → fours_in n (drop i s) ≡ fours_in n (drop (i + 1) s)
-fours_kept n s i l e = rw (drop-cons s i 0 l, add-one) (fours_on n (get_or s i 0) (drop (suc i) s) e)
+-- does the byte begin a character?
+abbrev pub begins : ℕ → Bool
+begins b = not (within continuation b)
 
-pub fours_taken : (n : ℕ) (s : List ℕ) (i : ℕ) → i < length s → 0 < n → within continuation (get_or s i 0) ≡ false
-    → fours_in n (drop i s) ≡ cond (begins_four (get_or s i 0)) 1 0 + fours_in (n - 1) (drop (i + 1) s)
-fours_taken n s i l some e =
-    let more : n ≡ suc (n - 1) = omega arith in
-    ap (λ (k : ℕ). fours_in k (drop i s)) more ∙ rw (drop-cons s i 0 l, add-one) (fours_next (n - 1) (get_or s i 0) (drop (suc i) s) e)
+-- of the first n bytes that do, those that begin one of four bytes
+counted : (n : ℕ) (s : List ℕ) → count_by begins_four (take n (filter begins s)) ≡ fours_in n s
+unfolding fours_in
+counted zero s = sym (fours_none s)
+counted (suc n) [] = refl
+counted (suc n) (b ∷ s) = by (within continuation b) (counted (suc n) s) (counted n s)
+  where
+    by : (on : Bool) → count_by begins_four (take (suc n) (filter begins s)) ≡ fours_in (suc n) s
+        → count_by begins_four (take n (filter begins s)) ≡ fours_in n s
+        → count_by begins_four (take (suc n) (cond (not on) (b ∷ filter begins s) (filter begins s)))
+        ≡ cond on (fours_in (suc n) s) (cond (begins_four b) 1 0 + fours_in n s)
+    by true h k = h
+    by false h k = sum_by-cons _ b (take n (filter begins s)) ∙ ap (cond (begins_four b) 1 0 +◌) k
 
-pub fours_end : (n : ℕ) (s : List ℕ) (i : ℕ) → length s ≤ i → fours_in n (drop i s) ≡ 0
-fours_end n s i l = rw (drop_of_length-le s l) (fours_past n)
+pub fours_counted : (n : ℕ) (s : List ℕ) → length (filter begins_four (take n (filter begins s))) ≡ fours_in n s
+fours_counted n s = length-filter begins_four (take n (filter begins s)) ∙ counted n s
 
 -- ---- behind the last of them
 

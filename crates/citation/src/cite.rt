@@ -31,7 +31,8 @@ struct Citing<'a> {
     numbers: &'a [usize],
 }
 
-// How many lines were written, and the bytes of the report behind what was read of it.
+// How many lines were written, and the bytes of the report behind what was read of it. The methods of `Citing` that always write one line answer the
+// bytes alone.
 type Cited<'a> = (usize, &'a [u8]);
 
 // The letter of a dependency, by how many characters were replaced in its text.
@@ -53,23 +54,21 @@ fn next_number(numbers: &[usize]) -> (usize, &[usize])
 
 impl Citing<'_> {
     // Cites a text that is given, with the range that is read.
-    fn cite_range<'a>(&self, report: &'a [u8], letter: u8, text: &[u8], w: &mut Writer) -> Cited<'a>
+    fn cite_range<'a>(&self, report: &'a [u8], letter: u8, text: &[u8], w: &mut Writer) -> &'a [u8]
         ensures answer { Cites encode_range ValidRange report.now self.now.source.now
-            (λ range. record { letter = letter; range = range; text = text.now } ∷ []) w.old w.new result }
-        ensures bounds { result.0 ≤ 1 }
+            (λ range. record { letter = letter; range = range; text = text.now } ∷ []) w.old w.new (1, result) }
         ensures left { Keeps w.old w.new }
     {
         let (range, next) = read_range(report);
         put_line(self.source, letter, range, text, w);
-        (1, next)
+        next
     }
 
     // Cites a text and its range.
     #[tactic(auto, unfolding(report::specs::Encode::encode_specifier))]
-    fn cite_specifier<'a>(&self, report: &'a [u8], letter: u8, w: &mut Writer) -> Cited<'a>
+    fn cite_specifier<'a>(&self, report: &'a [u8], letter: u8, w: &mut Writer) -> &'a [u8]
         ensures answer { Cites encode_specifier ValidSpecifier report.now self.now.source.now
-            (cite_specifier letter) w.old w.new result }
-        ensures bounds { result.0 ≤ 1 }
+            (cite_specifier letter) w.old w.new (1, result) }
         ensures left { Keeps w.old w.new }
     {
         let (text, next) = read_text(report);
@@ -88,45 +87,13 @@ impl Citing<'_> {
         if !flag {
             return (0, next);
         }
-        self.cite_specifier(next, letter, w)
-    }
-
-    // Cites a reference: R.
-    fn cite_reference<'a>(&self, report: &'a [u8], w: &mut Writer) -> Cited<'a>
-        ensures answer { Cites encode_reference ValidReference report.now self.now.source.now
-            cite_reference w.old w.new result }
-        ensures bounds { result.0 ≤ 1 }
-        ensures left { Keeps w.old w.new }
-    {
-        let (kind, next) = read_number(report);
-        let (lines, next) = self.cite_specifier(next, b'R', w);
-        match ReferenceKind::from(kind) {
-            ReferenceKind::Path => (lines, next),
-            ReferenceKind::Types => {
-                let (_, next) = read_number(next);
-                (lines, next)
-            }
-        }
-    }
-
-    // Cites a JSDoc import: J.
-    fn cite_jsdoc<'a>(&self, report: &'a [u8], w: &mut Writer) -> Cited<'a>
-        ensures answer { Cites encode_jsdoc ValidJsDoc report.now self.now.source.now
-            cite_jsdoc w.old w.new result }
-        ensures bounds { result.0 ≤ 1 }
-        ensures left { Keeps w.old w.new }
-    {
-        let (_, next) = read_number(report);
-        let (lines, next) = self.cite_specifier(next, b'J', w);
-        let (_, next) = read_number(next);
-        (lines, next)
+        (1, self.cite_specifier(next, letter, w))
     }
 
     // Cites a dynamic argument with its range, and `?` where it has no single text.
-    fn cite_argument<'a>(&self, report: &'a [u8], letter: u8, w: &mut Writer) -> Cited<'a>
+    fn cite_argument<'a>(&self, report: &'a [u8], letter: u8, w: &mut Writer) -> &'a [u8]
         ensures answer { Cites encode_ranged ValidRanged report.now self.now.source.now
-            (λ a. cite_argument letter a.0 a.1) w.old w.new result }
-        ensures bounds { result.0 ≤ 1 }
+            (λ a. cite_argument letter a.0 a.1) w.old w.new (1, result) }
         ensures left { Keeps w.old w.new }
     {
         let (kind, next) = read_number(report);
@@ -135,31 +102,6 @@ impl Citing<'_> {
             ArgumentKind::String => self.cite_specifier(next, letter, w),
             ArgumentKind::Template => {
                 self.cite_range(skip_list::<TemplatePart>(next), letter, b"?", w)
-            }
-        }
-    }
-
-    // Cites a dependency, and T for its types, which stand before it in the report and are read again.
-    #[tactic(auto, using(report::proofs::Buffers::keeps_then))]
-    fn cite_dependency<'a>(&self, report: &'a [u8], letter: u8, w: &mut Writer) -> Cited<'a>
-        ensures answer { Cites encode_dependency ValidDependency report.now self.now.source.now
-            (cite_dependency letter) w.old w.new result }
-        ensures bounds { result.0 ≤ 2 }
-        ensures left { Keeps w.old w.new }
-    {
-        let (kind, types) = read_number(report);
-        let next = skip_optional::<Specifier>(types);
-        match DependencyKind::from(kind) {
-            DependencyKind::Static(_) => {
-                let (first, next) = self.cite_specifier(next, letter, w);
-                let (second, _) = self.cite_optional(types, b'T', w);
-                let (_, next) = read_flag(next);
-                (first + second, skip_attributes(next))
-            }
-            DependencyKind::Dynamic(_) => {
-                let (first, next) = self.cite_argument(next, letter, w);
-                let (second, _) = self.cite_optional(types, b'T', w);
-                (first + second, skip_attributes(next))
             }
         }
     }
@@ -232,6 +174,7 @@ trait Item {
         ensures left { Keeps w.old w.new };
 }
 
+// A dependency, and T for its types, which stand before it in the report and are read again.
 struct Dependency;
 
 impl Item for Dependency {
@@ -243,11 +186,28 @@ impl Item for Dependency {
 
     ghost cited = { cite_noted };
 
+    #[tactic(auto, using(report::proofs::Buffers::keeps_then))]
     fn cite<'a>(citing: &Citing, report: &'a [u8], number: usize, w: &mut Writer) -> Cited<'a> {
-        citing.cite_dependency(report, dependency_letter(number), w)
+        let letter = dependency_letter(number);
+        let (kind, types) = read_number(report);
+        let next = skip_optional::<Specifier>(types);
+        match DependencyKind::from(kind) {
+            DependencyKind::Static(_) => {
+                let next = citing.cite_specifier(next, letter, w);
+                let (more, _) = citing.cite_optional(types, b'T', w);
+                let (_, next) = read_flag(next);
+                (1 + more, skip_attributes(next))
+            }
+            DependencyKind::Dynamic(_) => {
+                let next = citing.cite_argument(next, letter, w);
+                let (more, _) = citing.cite_optional(types, b'T', w);
+                (1 + more, skip_attributes(next))
+            }
+        }
     }
 }
 
+// A reference: R.
 struct Reference;
 
 impl Item for Reference {
@@ -260,10 +220,19 @@ impl Item for Reference {
     ghost cited = { λ number. cite_reference };
 
     fn cite<'a>(citing: &Citing, report: &'a [u8], _: usize, w: &mut Writer) -> Cited<'a> {
-        citing.cite_reference(report, w)
+        let (kind, next) = read_number(report);
+        let next = citing.cite_specifier(next, b'R', w);
+        match ReferenceKind::from(kind) {
+            ReferenceKind::Path => (1, next),
+            ReferenceKind::Types => {
+                let (_, next) = read_number(next);
+                (1, next)
+            }
+        }
     }
 }
 
+// A JSDoc import: J.
 struct JsDoc;
 
 impl Item for JsDoc {
@@ -276,7 +245,10 @@ impl Item for JsDoc {
     ghost cited = { λ number. cite_jsdoc };
 
     fn cite<'a>(citing: &Citing, report: &'a [u8], _: usize, w: &mut Writer) -> Cited<'a> {
-        citing.cite_jsdoc(report, w)
+        let (_, next) = read_number(report);
+        let next = citing.cite_specifier(next, b'J', w);
+        let (_, next) = read_number(next);
+        (1, next)
     }
 }
 

@@ -1,7 +1,6 @@
 // The writing of lines.
 ghost use Rattle.std.specs.Prelude.{◌≡◌, ◌<◌};
 ghost use mathlib.Core.List.{flat_map};
-ghost use Rattle.report.specs.Valid.{ValidPosition};
 ghost use Rattle.report.specs.Buffer.{Wrote};
 ghost use Rattle.citation.specs.Columns.{recounted_range};
 ghost use Rattle.citation.specs.Citation.{digits, hex_digit, is_escaped, escaped, cite_position, cite_range, printed, title};
@@ -34,11 +33,11 @@ fn hex_digit(n: u8) -> u8
     if n < 10 { 0x30 + n } else { 0x37 + n }
 }
 
-// Is the byte under 32, or 127, or the backslash?
+// Is the byte a control character, or the backslash?
 fn is_escaped(b: u8) -> bool
     ensures { result ≡ is_escaped b }
 {
-    b < 32 || b == 127 || b == b'\\'
+    b.is_ascii_control() || b == b'\\'
 }
 
 // Writes a byte of a text.
@@ -79,7 +78,6 @@ fn put_position(position: Position, w: &mut Writer)
 // Writes the positions at a range's start and at its end, recounted in UTF-16 code units.
 #[tactic(auto, using(report::proofs::Buffers::more_append, report::proofs::Buffers::more_cons), unfolding(crate::specs::Citation::cite_range))]
 fn put_range(source: &[u8], range: PositionRange, w: &mut Writer)
-    requires { ValidPosition range.start × ValidPosition range.end }
     ensures { Wrote w.old w.new
         (cite_range (recounted_range source.now (record { start = range.start; end = range.end }))) }
 {
@@ -91,7 +89,6 @@ fn put_range(source: &[u8], range: PositionRange, w: &mut Writer)
 // Writes a line: letter, space, range, space, text.
 #[tactic(auto, using(report::proofs::Buffers::more_append, report::proofs::Buffers::more_cons), unfolding(crate::specs::Citation::printed))]
 pub fn put_line(source: &[u8], letter: u8, range: PositionRange, text: &[u8], w: &mut Writer)
-    requires { ValidPosition range.start × ValidPosition range.end }
     ensures { Wrote w.old w.new
         (printed source.now (record { letter = letter; range = record { start = range.start; end = range.end }; text = text.now })) }
 {

@@ -1,6 +1,6 @@
 -- What the report function answers is what the citation asks for.
 use Rattle.laws.proofs.Prelude.{◌≡◌, refl, sym, ap, ◌∙◌, Bool, true, false, List, [], ◌++◌, flat_map, ℕ, ◌+◌, ◌-◌, ◌*◌, ◌≤◌, arith, leb, length, take, drop}
-use Rattle.laws.proofs.Prelude.{length-append, length-drop, take-append_seam, take_all, leb-true}
+use Rattle.laws.proofs.Prelude.{length-drop, take-append_seam, take_all, leb-true}
 use lib.ListN.{length-map}
 use Rattle.wire.specs.Refusals.{of_sheets, one_of, number_of}
 use Rattle.wire.specs.Refusals as refusals
@@ -34,11 +34,19 @@ Holds s source = (t : Sheet) → SheetOf s t → source ≡ t.source
 -- that the notes hold
 pub record Reported (s : List ℕ) (n : ℕ) (buffer notes : List ℕ) : Type 0 where
   pub info : ModuleInfo
-  pub within : n ≤ length buffer
+  pub within : n ≤ report_room
   pub room : 4 * length (take n buffer) ≤ line_room
   pub valid : Valid info
   pub bytes : encode info ≡ take n buffer
   pub lines : (source : List ℕ) → Holds s source → cited s ≡ citation source (take (length notes - 1) (drop 1 notes)) info
+
+-- the lines of a report that was answered are those that are cited
+pub reported_lines : {s source buffer notes : List ℕ} {n room : ℕ} → Holds s source → Reported s n buffer notes → length notes ≡ room
+    → (count : ℕ) (lines : List ℕ)
+    → ((m : ModuleInfo) → Valid m → encode m ≡ take n buffer → (count ≡ length (citation source (take (room - 1) (drop 1 notes)) m))
+    × (take count lines ≡ citation source (take (room - 1) (drop 1 notes)) m))
+    → take count lines ≡ cited s
+reported_lines source found long count lines written = rw (found.lines _ source, long) (written found.info found.valid found.bytes).1
 
 -- information of which the report is answered and cited
 record Asked (s : List ℕ) : Type 0 where
@@ -96,7 +104,7 @@ module _ {s buffer notes : List ℕ} where
           ∙ ap (drop 1) (noted.answer ∙ ap (held note_room) a.numbered ∙ held_whole note_room a.noted few) in
           record {
             info = a.info;
-            within = omega (arith, ap length begun, length-append bytes (zeros (report_room - length bytes)));
+            within = omega (arith, long, room);
             room = rw (← begins) (omega arith);
             valid = a.valid;
             bytes = begins;

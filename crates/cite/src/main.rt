@@ -1,11 +1,11 @@
 // Prints the citation of the sheet on standard input.
 #![tactic(auto)]
 
-ghost use Rattle.std.specs.Prelude.{◌≡◌, ◌≤◌, length, take};
-ghost use Rattle.laws.specs.code.Told.{Bounded, Meant};
+ghost use Rattle.std.specs.Prelude.{◌≡◌, ◌≤◌, length};
+ghost use Rattle.laws.specs.code.Told.{Meant};
 ghost use Rattle.sheet.specs.Sheet.{Sheet};
 ghost use Rattle.sheet_codec.specs.SheetOf.{SheetOf};
-ghost use Rattle.cite.specs.Cited.{report_room, note_room, line_room, cited, EditorColumns, KeptLines};
+ghost use Rattle.cite.specs.Cited.{line_room, cited, EditorColumns, KeptLines};
 
 use citation::cite::{cite_refusal, cite_report};
 use input::answer_input;
@@ -23,21 +23,22 @@ fn find_source(sheet: &[u8]) -> &[u8]
     source
 }
 
-// Writes the lines for a sheet, and answers how many bytes they are.
-fn cite(sheet: &[u8], report: &mut [u8], notes: &mut [usize], lines: &mut [u8]) -> usize
-    requires report_len { length report.old ≡ report_room }
-    requires notes_len { length notes.old ≡ note_room }
-    requires line_room_in_bounds { line_room ≤ length lines.old }
-    ensures { Meant
-        (Bounded ((result ≡ length (cited sheet.now)) × (take result lines.new ≡ cited sheet.now))
-        (result ≤ length lines.new))
-        (EditorColumns sheet.now × KeptLines sheet.now) }
+// Writes the lines for a sheet.
+fn cite<'a>(
+    sheet: &[u8],
+    report: &mut [u8; REPORT_ROOM],
+    notes: &mut [usize; NOTE_ROOM],
+    lines: &'a mut [u8],
+) -> &'a [u8]
+    requires { line_room ≤ length lines.old }
+    ensures { Meant (result.now ≡ cited sheet.now) (EditorColumns sheet.now × KeptLines sheet.now) }
 {
     let source = find_source(sheet);
-    match module_info_with_replaced(sheet, report, notes) {
+    let length = match module_info_with_replaced(sheet, report, notes) {
         Ok(n) => cite_report(&report[..n], source, &notes[1..], lines),
         Err(refusal) => cite_refusal(refusal.number(), lines),
-    }
+    };
+    &lines[..length]
 }
 
 // Room for a report.
@@ -59,7 +60,6 @@ fn main(rt: HostRuntime) -> io::Result<()> {
     answer_input(rt, "cite", &mut sheet, |sheet| {
         let mut report: [u8; REPORT_ROOM] = array::repeat(0);
         let mut notes: [usize; NOTE_ROOM] = array::repeat(0);
-        let length = cite(sheet, &mut report, &mut notes, &mut lines);
-        &lines[..length]
+        cite(sheet, &mut report, &mut notes, &mut lines)
     })
 }

@@ -26,13 +26,10 @@ pub type LoadOrder = Result<Option<NotInOrder>, RefusedModule>;
 fn order_of(judgement: Judgement) -> LoadOrder
     ensures { load_order_as result ≡ order_as (judgement_as judgement.entry) }
 {
-    match judgement? {
-        None => Ok(None),
-        Some(first) => Ok(Some(NotInOrder {
-            module: first.module,
-            entry: first.late.entry,
-        })),
-    }
+    Ok(judgement?.map(|first| NotInOrder {
+        module: first.module,
+        entry: first.late.entry,
+    }))
 }
 
 // Is a delivery in order? Reports are made in the work buffer, of which every byte is zero then.

@@ -9,7 +9,7 @@ ghost use Rattle.sheet.specs.Nodes.{node, nodes, argument_item, arguments, prope
 ghost use Rattle.sheet.specs.Walked.{entries};
 ghost use Rattle.sheet_heads.specs.code.Rest.{behind, rest};
 ghost use Rattle.sheet_heads.specs.code.Views.{quoted_of, head_of, HeadWithin, Spanned};
-ghost use Rattle.sheet_heads.specs.declared.node.Head.TheVariants.{Import, ExportFrom, ExportAll, ImportType, NamedModule};
+ghost use Rattle.sheet_heads.specs.declared.node.Head.TheVariants.{Import, ExportFrom, ExportAll, ImportType, Module};
 ghost use Rattle.sheet_nodes.specs.code.Reach.{ReachesIn};
 ghost use Rattle.report.specs.Range.{InSource};
 ghost use Rattle.dep_entries.specs.code.Written.{items_as, KeepsItems};
@@ -252,7 +252,7 @@ impl DependencyCollector<'_> {
     ) -> Result<&'s [u8], Refusal>
         requires { InSource self.now.comments.now.source specifier.span }
         ensures { Walks (after_node self.now.comments.now)
-            (rest self.now.comments.now.source levels (span, head_of (NamedModule specifier.entry count)) s.now)
+            (rest self.now.comments.now.source levels (span, head_of (Module (Some specifier.entry) count)) s.now)
             items.old items.new result }
     {
         items.put_module_entry(self.comments, span, specifier);
@@ -293,7 +293,7 @@ impl DependencyCollector<'_> {
             items.old items.new result }
     {
         match head {
-            Head::Other(n) | Head::Module(n) => self.walk_nodes(s, n, levels, items),
+            Head::Other(n) | Head::Module(None, n) => self.walk_nodes(s, n, levels, items),
             Head::String(_) | Head::Name(_) | Head::NamedExport(_) | Head::ImportEquals => Ok(s),
             Head::Template(n) => {
                 let (_, next) = read_pieces(s, n + 1)?;
@@ -307,7 +307,7 @@ impl DependencyCollector<'_> {
             Head::ExportAll(x) => self.visit_export_all(s, levels, span, x, items),
             Head::ImportType(x, n) => self.visit_ts_import_type(s, n, levels, span, x, items),
             Head::ImportRequire(x) => self.visit_ts_import_equals_decl(s, span, x, items),
-            Head::NamedModule(x, n) => self.visit_ts_module_decl(s, n, levels, span, x, items),
+            Head::Module(Some(x), n) => self.visit_ts_module_decl(s, n, levels, span, x, items),
         }
     }
 

@@ -1,6 +1,6 @@
 -- The grammar and the reader agree: what the reader finds in a body is its reading, of which there is at most one.
 use Rattle.laws.proofs.Prelude.{◌≡◌, refl, sym, ap, ◌∙◌, Bool, true, false, cond, not, or-true, inl, inr, ⊎_elim, List, ◌++◌, ℕ, ◌+◌, ◌-◌, ◌≤◌, ◌<◌, arith, eqb}
-use Rattle.laws.proofs.Prelude.{length, take, drop, none-ne-some, length-append, length-drop, drop-drop, eqb-true, eq-eqb}
+use Rattle.laws.proofs.Prelude.{length, take, drop, none-some, length-append, length-drop, drop-drop, eqb-true, eq-eqb, ne_eqb}
 use Rattle.std.specs.Prelude.{Option, Some, None}
 use Rattle.laws.specs.{Ascii.ascii, code.Told.Bounded, code.Told.Meant}
 use Rattle.text.specs.{declared.utf8.Encoding.TheVariants.Utf8, Ranges.in_ranges, Bytes.begins, Characters.Stands}
@@ -8,13 +8,13 @@ use Rattle.text.specs.Utf8.{admits, length_by, char_length, code_by, char_at}
 use Rattle.text.proofs.Runs.{if_fits}
 use Rattle.text.proofs.Words.{begins_is, begins_sound, begins_complete}
 use Rattle.std.specs.{Prelude.nat_eq, List.starts_with}
-use Rattle.std.proofs.lemmas.List.{take_rest}
+use Rattle.std.proofs.lemmas.{Bool.or_cases, List.take_rest}
 use Rattle.analysis.specs.declared.Capture.{Capture}
 use Rattle.analysis.specs.Place.{FoundWithin}
 use Rattle.ecma426.specs.WhiteSpace.{is_space, not_space}
 use Rattle.ecma426.specs.Grammar.{Row, none, more, Word, Marked, MapReading, FindsMap}
 use Rattle.ecma426.specs.Reader.{one_at, row_end, marked, word, run_to, from_word, find_source_map}
-use Rattle.ecma426.proofs.{WhiteSpace.either, Boundaries.run_inside}
+use Rattle.ecma426.proofs.Boundaries.{run_inside}
 use Rattle.ecma426.proofs.LongestRow.{stood, row_is, row_only}
 
 -- no whitespace stands where the word does, and no character where the text ends
@@ -33,16 +33,13 @@ not_both t = go (is_space (char_at Utf8 t).code)
     go true z = refl
     go false z = absurd (z refl)
 
-never : {k : Capture} → None ≡ Some k → ⊥
-never e = none-ne-some _ e
-
 module _ (body : List ℕ) where
   -- the library's test of the word at a place
-  pub word_there : (at : ℕ) {b : Bool} → b ≡ starts_with nat_eq (take (length body - at) (drop at body)) word → begins word (drop at body) ≡ b
+  word_there : (at : ℕ) {b : Bool} → b ≡ starts_with nat_eq (take (length body - at) (drop at body)) word → begins word (drop at body) ≡ b
   word_there at e = begins_is word (drop at body) ∙ sym (rw take_rest at e)
 
   -- a word stands just where the text from there on begins with it
-  pub stands : (w : List ℕ) {at : ℕ} → 0 < length w → begins w (drop at body) ≡ true → Stands (Word w) body at (at + length w)
+  stands : (w : List ℕ) {at : ℕ} → 0 < length w → begins w (drop at body) ≡ true → Stands (Word w) body at (at + length w)
   stands w {at} some e =
       let p = begins_sound w (drop at body) e in
       record { inside = omega (arith, ap length p, length-append w (drop (length w) (drop at body)), length-drop at body); piece = rw drop-drop at p }
@@ -61,10 +58,10 @@ module _ (body : List ℕ) where
   -- the two marks, each by the test for it
   marks : marked body ≡ true → Marked body
   marks e = ⊎_elim (λ b. inl (stands (ascii "#") (omega arith) b)) (λ b. inr (stands (ascii "@") (omega arith) b))
-      (either (begins (ascii "#") body) (begins (ascii "@") body) e)
+      (or_cases (begins (ascii "#") body) (begins (ascii "@") body) e)
 
-  pub marked_some : marked body ≡ true → 1 ≤ length body
-  marked_some e = ⊎_elim (λ x. x.inside) (λ x. x.inside) (marks e)
+  pub marked_some : true ≡ marked body → 1 ≤ length body
+  marked_some e = ⊎_elim (λ x. x.inside) (λ x. x.inside) (marks (sym e))
 
   marked_there : Marked body → marked body ≡ true
   marked_there (inl x) = rw (begun (ascii "#") x)
@@ -104,20 +101,20 @@ module _ (body : List ℕ) where
             end = rw (eqb-true (row_end is_space body end) (length body) i) at (row_is is_space body end);
             bare = refl;
           })
-      by_end m w false i e = absurd (never e)
+      by_end m w false i e = absurd (none-some _ e)
 
       by_word : marked body ≡ true → (b : Bool) → begins word (drop at body) ≡ b → cond b (run_to body (at + 17) end) None ≡ Some k → MapReading body k
       by_word m true w e = by_end m w (eqb (row_end is_space body end) (length body)) refl e
-      by_word m false w e = absurd (never e)
+      by_word m false w e = absurd (none-some _ e)
 
       by_mark : (b : Bool) → marked body ≡ b → cond b (from_word body at) None ≡ Some k → MapReading body k
       by_mark true m e = by_word m (begins word (drop at body)) refl e
-      by_mark false m e = absurd (never e)
+      by_mark false m e = absurd (none-some _ e)
 
   pub finds_map : FindsMap body (find_source_map body)
   finds_map = record {
     some = λ k. (sound k, complete);
-    none = (λ e k r. never (sym e ∙ complete r), by (find_source_map body) refl);
+    none = (λ e k r. none-some _ (sym e ∙ complete r), by (find_source_map body) refl);
     one = λ k l r q. let e : Some k ≡ Some l = sym (complete r) ∙ complete q in cc;
   }
     where
@@ -126,9 +123,34 @@ module _ (body : List ℕ) where
       by None e n = e
 
   -- so does every answer that is the reader's
-  pub answered : {r : Option Capture} → r ≡ find_source_map body → Bounded (Meant (r ≡ find_source_map body) (FindsMap body r)) (FoundWithin r (length body))
+  abbrev Answered : Option Capture → Type 0
+  Answered r = Bounded (Meant (r ≡ find_source_map body) (FindsMap body r)) (FoundWithin r (length body))
+
+  answered : {r : Option Capture} → r ≡ find_source_map body → Answered r
   answered {r} e = let finds : FindsMap body r = rw e finds_map in record { answer = record { answer = e; meaning = finds }; bounds = by r refl finds }
     where
       by : (f : Option Capture) → r ≡ f → FindsMap body r → FoundWithin f (length body)
       by (Some k) i finds = run_inside body ((finds.some k).0 i)
       by None i finds = tt
+
+  -- the answers of the code: without a mark, without the word, and by where the run and the whitespace behind it end
+  pub unmarked : false ≡ marked body → Answered None
+  unfolding find_source_map
+  unmarked m = answered (rw (sym m))
+
+  module _ {at : ℕ} (m : true ≡ marked body) (white : at ≡ row_end is_space body 1) where
+    pub unnamed : false ≡ starts_with nat_eq (take (length body - at) (drop at body)) word → Answered None
+    unfolding find_source_map
+    unnamed w = answered (rw (sym m, ← white, word_there at w))
+
+    module _ {to end : ℕ} (w : true ≡ starts_with nat_eq (take (length body - at) (drop at body)) word)
+        (run : to ≡ row_end not_space body (at + 17)) (behind : end ≡ row_end is_space body to) where
+      pub ended : end ≡ length body → Answered (Some (record { quoted = false; from = at + 17; to = to }))
+      unfolding find_source_map
+      ended e = answered (rw (sym m, ← white, word_there at w, ← run, ← behind, eq-eqb _ _ e))
+
+      pub not_ended : (end ≡ length body → ⊥) → Answered None
+      unfolding find_source_map
+      not_ended n = answered (rw (sym m, ← white, word_there at w, ← run, ← behind, ne_eqb _ _ n))
+
+pub ruleset answers_as = (marked_some, unmarked, unnamed, ended, not_ended)

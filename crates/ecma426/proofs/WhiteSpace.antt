@@ -1,15 +1,12 @@
 -- ECMAScript's whitespace beside Unicode's White_Space: U+0085 is not in it, U+FEFF is, and nothing else differs.
-use Rattle.laws.proofs.Prelude.{◌≡◌, refl, sym, Bool, true, false, not, ◌&&◌, ◌||◌, and-eq-true_iff, false≢true, ◌⊎◌, inl, inr, ⊎_elim, ◌↔◌, List, [], ◌∷◌}
+use Rattle.laws.proofs.Prelude.{◌≡◌, refl, sym, Bool, true, false, not, ◌&&◌, ◌||◌, and-eq-true_iff, false≢true, inl, inr, ⊎_elim, ◌↔◌, List, [], ◌∷◌}
 use Rattle.laws.proofs.Prelude.{◌++◌, ℕ, zero, suc, ◌+◌, ◌-◌, ◌≤◌, ◌<◌, arith, ℕ_discrete, eqb, eqb-true}
+use Rattle.std.proofs.lemmas.Bool.{or_cases}
 use Rattle.laws.specs.code.Told.{Meant}
 use Rattle.text.specs.Ranges.{Range, ◌to◌, within, in_ranges}
 use Rattle.text.specs.WhiteSpace as unicode
 use Rattle.text.proofs.WithinRange.{within_iff}
 use Rattle.ecma426.specs.WhiteSpace.{white_space, line_terminator, is_space, ByUnicode}
-
-pub either : (a b : Bool) → a || b ≡ true → (a ≡ true) ⊎ (b ≡ true)
-either true b e = inl refl
-either false b e = inr e
 
 -- the test passes of n numbers from the first on, and of each number of some ranges
 abbrev passes_from : (ℕ → Bool) → ℕ → ℕ → Bool
@@ -39,7 +36,7 @@ module _ (test : ℕ → Bool) (p : ℕ) where
       ⊎_elim
       (λ w. let (l, h) = (within_iff lo hi p).0 w in passed_from lo (suc hi - lo) here l (omega arith))
       (passed rs more)
-      (either (within (lo to hi) p) (in_ranges rs p) m)
+      (or_cases (within (lo to hi) p) (in_ranges rs p) m)
 
 module _ (p : ℕ) where
   to_unicode : is_space p ≡ true → ByUnicode p
@@ -48,13 +45,13 @@ module _ (p : ℕ) where
       ⊎_elim
       (λ a. let (u, n) = (and-eq-true_iff (in_ranges unicode.white_space p) (not (eqb p 0x85))).0 a in inl (u, λ i. false≢true (rw i at n)))
       (λ a. inr (eqb-true p 0xFEFF a))
-      (either _ _ (passed (λ x. (in_ranges unicode.white_space x && not (eqb x 0x85)) || eqb x 0xFEFF) p (white_space ++ line_terminator) refl e))
+      (or_cases _ _ (passed (λ x. (in_ranges unicode.white_space x && not (eqb x 0x85)) || eqb x 0xFEFF) p (white_space ++ line_terminator) refl e))
 
   from_unicode : ByUnicode p → is_space p ≡ true
   unfolding is_space in_ranges
   from_unicode (inl (u, n)) =
       ⊎_elim (λ a. a) (λ a. absurd (n (eqb-true p 0x85 a)))
-      (either _ _ (passed (λ x. is_space x || eqb x 0x85) p unicode.white_space refl u))
+      (or_cases _ _ (passed (λ x. is_space x || eqb x 0x85) p unicode.white_space refl u))
   from_unicode (inr e) = rw e
 
 -- an answer that is true just there

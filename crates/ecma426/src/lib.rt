@@ -12,8 +12,8 @@ use analysis::Capture;
 use text::class::run_end_if;
 use text::white_space::is_white_space;
 
-// The length of `sourceMappingURL=`.
-const WORD_LENGTH: usize = 17;
+// What stands before the URL.
+const WORD: [u8; 17] = *b"sourceMappingURL=";
 
 // Does ECMAScript's `\s` match the code point? It is White_Space without U+0085, and U+FEFF.
 pub fn is_space(code: u32) -> bool
@@ -35,6 +35,7 @@ fn is_marked(body: &[u8]) -> bool
 }
 
 // ^[#@]\s*sourceMappingURL=(\S*)\s*$ in ECMAScript's regular expressions. The word is compared byte by byte, its case too.
+#[tactic(auto, using(crate::proofs::Agrees::answers_as), unfolding(crate::specs::Reader::row_end))]
 pub fn find_source_map(body: &[u8]) -> Option<Capture>
     ensures { Bounded (Meant (result ≡ find_source_map body.now) (FindsMap body.now result))
         (FoundWithin result (length body.now)) }
@@ -43,10 +44,10 @@ pub fn find_source_map(body: &[u8]) -> Option<Capture>
         return None;
     }
     let at = run_end_if(body, 1, &is_space);
-    if !body[at..].starts_with(b"sourceMappingURL=") {
+    if !body[at..].starts_with(&WORD) {
         return None;
     }
-    let from = at + WORD_LENGTH;
+    let from = at + WORD.len();
     let to = run_end_if(body, from, &|code| !is_space(code));
     if run_end_if(body, to, &is_space) == body.len() {
         Some(Capture {

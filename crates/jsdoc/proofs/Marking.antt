@@ -1,7 +1,7 @@
 -- The marks of the readings from each place of what is left of a body, step by step.
 use Rattle.std.specs.Prelude.{Option, Some, None}
 use Rattle.laws.proofs.Prelude.{◌≡◌, refl, sym, ap, ◌∙◌, Bool, true, false, cond, ⊎_elim, List, [], ◌∷◌, ℕ, zero, suc, ◌+◌, ◌-◌, ◌≤◌, ◌<◌, code, arith}
-use Rattle.laws.proofs.Prelude.{ℕ_discrete, eqb, ne_eqb, length, drop, get_or, get_or-set_same, none-ne-some, drop_of_length-le, take, length-drop, drop-drop}
+use Rattle.laws.proofs.Prelude.{ℕ_discrete, eqb, ne_eqb, length, drop, get_or, get_or-set_same, none-some, drop_of_length-le, take, length-drop, drop-drop}
 use Rattle.laws.proofs.Prelude.{get_or-drop}
 use borrow.Author.Tests.{eqb-false}
 use Rattle.std.proofs.lemmas.List.{drop_more, set-set, take_rest}
@@ -63,7 +63,7 @@ module _ {A : Type 0} (f : Marking A) (d : A) where
     -- up to the first byte that a reading begins with nothing is marked
     pub first_marked : (s : Bytes) {t : Bytes} (l : List A) → from_first m s ≡ Some t → all_marked f d p n s l ≡ all_marked f d p n t l
     unfolding from_first all_marked
-    first_marked [] l e = absurd (none-ne-some _ e)
+    first_marked [] l e = absurd (none-some _ e)
     first_marked (x ∷ s) {t} l e = go (eqb x m) refl e (first_marked s l)
       where
         go : (c : Bool) → eqb x m ≡ c → cond c (Some (x ∷ s)) (from_first m s) ≡ Some t
@@ -79,7 +79,7 @@ module _ {A : Type 0} (f : Marking A) (d : A) where
       where
         go : (c : Bool) → eqb x m ≡ c → cond c (Some (x ∷ s)) (from_first m s) ≡ None → (from_first m s ≡ None → all_marked f d p n s l ≡ l)
             → all_marked f d p n (x ∷ s) l ≡ l
-        go true z e g = absurd (none-ne-some _ (sym e))
+        go true z e g = absurd (none-some _ (sym e))
         go false z e g = rw (other x s (eqb-false x m z)) (g e)
 
   -- the reading from the front, and then those behind it

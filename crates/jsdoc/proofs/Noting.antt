@@ -1,5 +1,5 @@
 -- The origins of the readings from the places before one, and what the reading from that place adds.
-use Rattle.laws.proofs.Prelude.{◌≡◌, sym, ◌∙◌, ◌⊎◌, ⊎_elim, inl, inr, List, none-ne-some, ℕ, ◌≤◌, ◌<◌, arith, length, drop}
+use Rattle.laws.proofs.Prelude.{◌≡◌, sym, ◌∙◌, ◌⊎◌, ⊎_elim, inl, inr, List, none-some, ℕ, ◌≤◌, ◌<◌, arith, length, drop}
 use Rattle.laws.proofs.Prelude.{replicate}
 use Rattle.std.specs.Prelude.{Option, Some, None}
 use Rattle.analysis.specs.Mode.{Mode}
@@ -24,7 +24,7 @@ module _ {R : Bytes → Bytes → Bytes → Mode → Type 0} {p : Parser Hit} (K
       (origins_note i at (place_below (with_kind f (K.reading f.reads))) o (λ k. behind k at m f))
   origins_turn {P} o behind None is =
       origins_more (λ k q x. inl x)
-      (λ k q x. (k, omega arith, ⊎_elim (λ y. y) (λ y. absurd (none-ne-some _ (sym is ∙ (K.agrees _ _ _ _).0 y.1.1.reads))) x)) o
+      (λ k q x. (k, omega arith, ⊎_elim (λ y. y) (λ y. absurd (none-some _ (sym is ∙ (K.agrees _ _ _ _).0 y.1.1.reads))) x)) o
 
 -- the readings from the places before i
 abbrev pub Early : (Bytes → Bytes → Bytes → Mode → Type 0) → Bytes → ℕ → ℕ → ℕ → Type 0

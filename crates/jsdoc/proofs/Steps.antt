@@ -1,6 +1,6 @@
 -- The pieces at the front of some bytes, as the code finds them.
 use Rattle.laws.proofs.Prelude.{◌≡◌, refl, sym, ◌∙◌, Bool, true, false, cond, [], ◌∷◌, ℕ, zero, suc, ◌+◌, ◌-◌, ◌≤◌, ◌<◌, arith, length, take, drop, get_or}
-use Rattle.laws.proofs.Prelude.{length-drop, drop-drop, eq-eqb, ne_eqb, eqb, eqb-true, none-ne-some}
+use Rattle.laws.proofs.Prelude.{length-drop, drop-drop, eq-eqb, ne_eqb, eqb, eqb-true, none-some}
 use Rattle.std.specs.Prelude.{Option, Some, None, MatchOption, nat_eq}
 use Rattle.std.specs.Borrow.{Bor}
 use Rattle.std.specs.Cmp.Lexicographic.{pointwise}
@@ -63,7 +63,7 @@ module _ (m : ℕ) where
 -- it is there, no more is left than was, and it begins with m
 pub first_left : (m : ℕ) (s t : Bytes) → from_first m s ≡ Some t → (0 < length t) × ((length t ≤ length s) × (get_or t 0 0 ≡ m))
 unfolding from_first
-first_left m [] t e = absurd (none-ne-some _ e)
+first_left m [] t e = absurd (none-some _ e)
 first_left m (x ∷ s) t e = go (eqb x m) refl e (first_left m s t)
   where
     go : (c : Bool) → eqb x m ≡ c → cond c (Some (x ∷ s)) (from_first m s) ≡ Some t

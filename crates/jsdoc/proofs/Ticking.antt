@@ -1,5 +1,5 @@
 -- The ticks of the readings from the places before one, and what the reading from that place adds.
-use Rattle.laws.proofs.Prelude.{◌≡◌, sym, ap, ◌∙◌, ◌⊎◌, ⊎_elim, inl, inr, List, none-ne-some, ℕ, ◌+◌, ◌<◌, arith, length}
+use Rattle.laws.proofs.Prelude.{◌≡◌, sym, ap, ◌∙◌, ◌⊎◌, ⊎_elim, inl, inr, List, none-some, ℕ, ◌+◌, ◌<◌, arith, length}
 use Rattle.laws.proofs.Prelude.{drop, replicate, ◌-◌, length-drop, drop-drop}
 use Rattle.std.specs.Prelude.{Option, Some, None}
 use Rattle.analysis.specs.Mode.{Mode}
@@ -64,7 +64,7 @@ module _ {R : Bytes → Bytes → Bytes → Mode → Type 0} {p : Parser Hit} (K
       (λ x y t. ⊎_elim inl (λ g. inr (only_one is g)) t)
       (λ y t. let (j, g) = listed (place q) y t in (one_place g w).1)
   ticks_turn k listed None is =
-      ticks_iff (λ q m t. inl t) (λ q m t. ⊎_elim (λ x. x) (λ g. absurd (none-ne-some _ (sym is ∙ (K.agrees _ _ _ _).0 g.reads))) t) k
+      ticks_iff (λ q m t. inl t) (λ q m t. ⊎_elim (λ x. x) (λ g. absurd (none-some _ (sym is ∙ (K.agrees _ _ _ _).0 g.reads))) t) k
 
 -- a reading begins inside the body
 pub from_below : {b : Bytes} {k q : ℕ} {m : Mode} → From Reading b k q m → k < length b

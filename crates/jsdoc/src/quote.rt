@@ -32,7 +32,7 @@ pub fn parse_quote(s: &[u8]) -> ParseResult<'_, &[u8]>
 pub fn parse_ident(s: &[u8]) -> ParseResult<'_, &[u8]>
     ensures { text_as result ≡ parse_ident s.now }
 {
-    let first = class_at(s, 0, Class::Alphabetic);
+    let first = class_at(s, Class::Alphabetic);
     if first == 0 {
         return None;
     }

@@ -5,7 +5,7 @@ use mathlib.Core.Logic.{⊎_elim}
 use mathlib.Core.List.Memᴰ
 use mathlib.Core.List.{List, [], ◌∷◌, ◌++◌, append_assoc, append-nil, flat_map, Memᴰ}
 use Rattle.std.specs.Prelude.{None, Option, Some}
-use Rattle.laws.proofs.Options.{some-injective, none-ne-some}
+use Rattle.std.proofs.lemmas.Option.{same_Some, none-some}
 use Prim.Native.Nat.{ℕ, zero, suc, ◌+◌, ◌-◌, ◌≤◌, ◌<◌}
 use native.Mathlib.Omega.{arith}
 use lib.ListN.{length, get_or, take, drop, length-drop}
@@ -60,8 +60,8 @@ module _ {A : Type 0} where
   back_member (suc n) (x ∷ l) m = Memᴰ.tail (back_member n l m)
 
   pub last_member : (l : List A) {a : A} → last_of l ≡ Some a → Memᴰ a l
-  last_member [] {a} e = absurd (none-ne-some a e)
-  last_member (x ∷ []) {a} e = Memᴰ.head (sym (some-injective x a e))
+  last_member [] {a} e = absurd (none-some a e)
+  last_member (x ∷ []) {a} e = Memᴰ.head (sym (same_Some x a e))
   last_member (x ∷ y ∷ l) e = Memᴰ.tail (last_member (y ∷ l) e)
 
   pub middle_member : {l : List A} {a : A} (before behind : List A) → l ≡ before ++ a ∷ behind → Memᴰ a l

@@ -19,7 +19,7 @@ pub use mathlib.Core.List.{append-nil, map}
 unfoldable pub use mathlib.Core.List.{flat_map}
 pub use mathlib.Core.Logic.{◌↔◌, ◌⊎◌, inl, inr, ⊎_elim}
 pub use Rattle.std.specs.Prelude.{Option}
-pub use Rattle.laws.proofs.Options.{none-ne-some}
+pub use Rattle.std.proofs.lemmas.Option.{none-some}
 pub use mathlib.Core.Path.{◌∙◌, ◌≡◌, ap, refl, sym}
 pub use native.Mathlib.Decide.{ℕ_discrete}
 pub use native.Mathlib.Nat.{add-zero, le_of_suc-le-suc, not-suc-le-zero, sub-zero, zero-add}

@@ -1,5 +1,6 @@
 // What bytes are: none, a sheet that is refused, or one that is accepted. Each question that is asked of bytes begins here.
-ghost use Rattle.std.specs.Prelude.{◌≡◌};
+ghost use Rattle.std.specs.Prelude.{◌≡◌, []};
+ghost use Rattle.pragmas.specs.Pragmas.{head_comments, end_comments};
 ghost use Rattle.module_info.specs.code.AcceptedSheet.{IsAccepted, one_sheet};
 ghost use Rattle.module_info.specs.code.Pieces.{commented, Sound, PartsOf, AcceptsIn};
 ghost use Rattle.module_info.specs.code.Judged.{ChecksAs, JudgedAs};
@@ -62,6 +63,26 @@ impl<'a> Accepted<'a> {
         let front = self.parts.front;
         Comments::new(front.source, front.comments, front.groups, self.index)
     }
+
+    // Those of the head group.
+    #[tactic(auto, unfolding(pragmas::specs::Pragmas::head_comments))]
+    pub fn head_comments(&self) -> Comments<'a>
+        ensures { result ≡ record { source = self.now.sheet.source; comments = head_comments self.now.sheet; groups = [] } }
+    {
+        let comments = self.comments();
+        let program = self.parts().tree.program;
+        comments.of(comments.head_group(program))
+    }
+
+    // Those of the trailing group at the program's end.
+    #[tactic(auto, unfolding(pragmas::specs::Pragmas::end_comments))]
+    pub fn end_comments(&self) -> Comments<'a>
+        ensures { result ≡ record { source = self.now.sheet.source; comments = end_comments self.now.sheet; groups = [] } }
+    {
+        let comments = self.comments();
+        let program = self.parts().tree.program;
+        comments.of(comments.end_group(program))
+    }
 }
 
 // Checks a sheet: its comments, its groups and the index of its source's positions are in the tables then, or the
@@ -86,7 +107,7 @@ fn check<'a>(sheet: &'a [u8], tables: &'a mut Tables) -> Result<Accepted<'a>, Re
 pub fn judge<'a>(sheet: &'a [u8], tables: &'a mut Tables) -> Result<Option<Accepted<'a>>, Refusal>
     ensures { JudgedAs sheet.now result }
 {
-    if sheet.len() == 0 {
+    if sheet.is_empty() {
         return Ok(None);
     }
     Ok(Some(check(sheet, tables)?))

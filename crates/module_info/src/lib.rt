@@ -42,19 +42,18 @@ fn put_dependencies(accepted: &Accepted, w: &mut Writer, notes: &mut [usize])
 fn put_head(accepted: &Accepted, w: &mut Writer)
     ensures { Wrote w.old w.new (head_bytes accepted.now.sheet) }
 {
-    let comments = accepted.comments();
-    let parts = accepted.parts();
-    let head = comments.of(comments.head_group(parts.tree.program));
+    let head = accepted.head_comments();
+    let media = accepted.parts().front.media;
     analyze_ts_references(&head, w);
-    analyze_first(Rule::TsSelfTypes, parts.front.media, &head, w);
-    analyze_first(Rule::JsxImportSource, parts.front.media, &head, w);
-    analyze_first(Rule::JsxImportSourceTypes, parts.front.media, &head, w);
+    analyze_first(Rule::TsSelfTypes, media, &head, w);
+    analyze_first(Rule::JsxImportSource, media, &head, w);
+    analyze_first(Rule::JsxImportSourceTypes, media, &head, w);
 }
 
 // The JSDoc imports and the source map. `ticks` is lent to work in, and comes cleared. Where they are too few, there are more here: ticks for the
 // longest source take longer to clear than many a sheet takes. The compiler inlines no function that calls itself, so these are not on the stack
 // while the tree is walked.
-#[tactic(auto, using(report::proofs::Buffers::more_append), unfolding(crate::specs::code::Pieces::rest_bytes, pragmas::specs::Pragmas::last_by, pragmas::specs::Pragmas::end_comments))]
+#[tactic(auto, using(report::proofs::Buffers::more_append), unfolding(crate::specs::code::Pieces::rest_bytes, pragmas::specs::Pragmas::last_by))]
 fn put_rest(accepted: &Accepted, ticks: &mut [u8], w: &mut Writer)
     requires { ticks.old ≡ replicate (length ticks.old) 0 }
     ensures { Wrote w.old w.new (rest_bytes accepted.now.sheet) }
@@ -67,8 +66,7 @@ fn put_rest(accepted: &Accepted, ticks: &mut [u8], w: &mut Writer)
     }
     let parts = accepted.parts();
     analyze_jsdoc_imports(parts.front.media, &comments, &mut ticks[0..long], w);
-    let end = comments.of(comments.end_group(parts.tree.program));
-    analyze_source_map_url(&end, w);
+    analyze_source_map_url(&accepted.end_comments(), w);
 }
 
 // The parts of the report of a sheet, one after the other. The notes take a row for each dependency.

@@ -50,11 +50,9 @@ fn read_source_map(accepted: &Accepted) -> Option<SourceMap>
         (map_of accepted.now.bytes result ≡ standard_map accepted.now.sheet)
         (TextInside accepted.now.bytes result) }
 {
-    let comments = accepted.comments();
-    let parts = accepted.parts();
-    let end = comments.of(comments.end_group(parts.tree.program));
+    let end = accepted.end_comments();
     let taken = find_last(&end, Rule::StandardSourceMap)?;
-    Some(locate(parts.front.source_start, &taken))
+    Some(locate(accepted.parts().front.source_start, &taken))
 }
 
 // The source map of a sheet by ECMA-426, or the first refusal that it meets; of no bytes none.
@@ -69,10 +67,10 @@ pub fn source_map(sheet: &[u8]) -> MapOutcome
 }
 
 // The places of an answer, for C.
-fn put_places(answer: MapOutcome, places: &mut [u64; 6])
-    ensures { places.new ≡ map_places answer }
+fn places_of(answer: MapOutcome) -> [u64; 6]
+    ensures { result ≡ map_places answer }
 {
-    *places = match answer {
+    match answer {
         Ok(Some(map)) => [
             map.from as u64,
             map.to as u64,
@@ -82,7 +80,7 @@ fn put_places(answer: MapOutcome, places: &mut [u64; 6])
             map.end.column as u64,
         ],
         Ok(None) | Err(_) => [0; 6],
-    };
+    }
 }
 
 // Its number: a refusal's, 256 where there is a source map, or 0.
@@ -102,6 +100,6 @@ pub fn module_info_source_map(sheet: &[u8], places: &mut [u64; 6]) -> u64
         × (places.new ≡ map_places answer) }
 {
     let answer = source_map(sheet);
-    put_places(answer, places);
+    *places = places_of(answer);
     pack_source_map(answer)
 }

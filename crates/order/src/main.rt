@@ -1,21 +1,20 @@
 // Prints whether the delivery on standard input is in order.
 #![tactic(auto)]
 
-ghost use Rattle.std.specs.Prelude.{◌≡◌, ◌++◌, ◌+◌, ◌*◌, ◌≤◌, length};
+ghost use Rattle.std.specs.Prelude.{◌≡◌, Some, Err, ◌++◌, ◌+◌, ◌*◌, ◌≤◌, length};
 ghost use Rattle.laws.specs.code.Told.{Bounded};
 ghost use Rattle.report.specs.Buffer.{Wrote};
 ghost use Rattle.citation.specs.Citation.{decimal};
-ghost use Rattle.wire.specs.Refusals.{number_of};
-ghost use Rattle.delivery.specs.Order.{not_in_order, refused, order_of};
-ghost use Rattle.order.specs.Printed.{work_room, line_room, printed_answer, printed_order};
+ghost use Rattle.delivery.specs.Order.{order_of};
+ghost use Rattle.delivery.specs.code.Views.{late_module_as, judgement_as};
+ghost use Rattle.order.specs.Printed.{line_room, printed_answer, printed_order};
 
 use citation::lines::{put_digits, put_text};
 use delivery::check::DELIVERY_LIMIT;
-use delivery::judge::judge;
+use delivery::judge::{LateModule, RefusedModule, judge};
 use input::answer_input;
 use report::writer::Writer;
 use std::{array, io};
-use wire::refusals::Refusal;
 
 // Writes a word and a number.
 #[tactic(auto, using(report::proofs::Buffers::more_append))]
@@ -27,22 +26,22 @@ fn put_counted(word: &[u8], n: usize, w: &mut Writer)
 }
 
 // Writes `module I entry J NAME`.
-fn put_late(index: usize, entry: usize, specifier: &[u8], w: &mut Writer)
-    ensures { Wrote w.old w.new (printed_answer (not_in_order index entry specifier.now)) }
+fn put_late(first: LateModule, w: &mut Writer)
+    ensures { Wrote w.old w.new (printed_answer (late_module_as (Some first.entry))) }
 {
-    put_counted(b"module ", index, w);
-    put_counted(b" entry ", entry, w);
+    put_counted(b"module ", first.module, w);
+    put_counted(b" entry ", first.late.entry, w);
     w.put(b' ');
-    put_text(specifier, w);
+    put_text(first.late.specifier, w);
     w.put(b'\n');
 }
 
 // Writes `refused N module I`.
-fn put_refused(refusal: Refusal, index: usize, w: &mut Writer)
-    ensures { Wrote w.old w.new (printed_answer (refused (number_of refusal) index)) }
+fn put_refused(refused: RefusedModule, w: &mut Writer)
+    ensures { Wrote w.old w.new (printed_answer (judgement_as (Err refused))) }
 {
-    put_counted(b"refused ", usize::from(refusal.number()), w);
-    put_counted(b" module ", index, w);
+    put_counted(b"refused ", usize::from(refused.refusal.number()), w);
+    put_counted(b" module ", refused.module, w);
     w.put(b'\n');
 }
 
@@ -55,15 +54,14 @@ fn put_order(delivery: &[u8], work: &mut [u8], w: &mut Writer)
 {
     match judge(delivery, work) {
         Ok(None) => w.put_bytes(b"in order\n"),
-        Ok(Some(first)) => put_late(first.module, first.late.entry, first.late.specifier, w),
-        Err(refused) => put_refused(refused.refusal, refused.module, w),
+        Ok(Some(first)) => put_late(first, w),
+        Err(refused) => put_refused(refused, w),
     }
 }
 
 // Writes the line for a delivery.
-fn print_order<'a>(delivery: &[u8], work: &mut [u8], line: &'a mut [u8]) -> &'a [u8]
-    requires work_len { length work.old ≡ work_room }
-    requires line_room_in_bounds { line_room ≤ length line.old }
+fn print_order<'a>(delivery: &[u8], work: &mut [u8; WORK_ROOM], line: &'a mut [u8]) -> &'a [u8]
+    requires { line_room ≤ length line.old }
     ensures { result.now ≡ printed_order delivery.now }
 {
     let mut w = Writer::new(line);

@@ -1,9 +1,9 @@
 -- The references and the pragmas are exactly the readings of their rules.
 use Rattle.laws.proofs.Prelude.{◌≡◌, refl, sym, ap, ◌∙◌, Bool, true, false, cond, false≢true, ◌⊎◌, inl, inr, ⊎_elim, ◌↔◌, List, [], ◌∷◌, ◌++◌, append_assoc}
-use Rattle.laws.proofs.Prelude.{Memᴰ_head, Memᴰ_tail, Memᴰ_not_nil, Memᴰ_cases_cons, Option, none-ne-some, ℕ}
+use Rattle.laws.proofs.Prelude.{Memᴰ_head, Memᴰ_tail, Memᴰ_not_nil, Memᴰ_cases_cons, Option, none-some, ℕ}
 use mathlib.Core.List.{reverse, reverse-cons, reverse-append, reverse-reverse}
 use Rattle.std.specs.Prelude.{None, Option, Some, option_map}
-use Rattle.laws.proofs.Options.{some-injective}
+use Rattle.std.proofs.lemmas.Option.{same_Some}
 use Rattle.analysis.specs.{declared.Capture.Capture, Mode.Mode}
 use Rattle.analysis.specs.Row.{Row, find, is_found}
 use Rattle.analysis.{specs.Patterns.triple_slash_row, specs.Patterns.resolution_mode_row, proofs.Preference.preferred_reads, proofs.Preference.finds}
@@ -59,10 +59,10 @@ by_finder {A} found make {r} gives reading nothing = record {
   where
     some : (c : Comment) (a : A) (f : Option Capture) → found c ≡ f → option_map (make c) f ≡ Some a → r.Gives c a
     some c a (Some k) e i = let same : make c k ≡ a = cc in rw (← same) (gives c k e)
-    some c a None e i = absurd (none-ne-some _ i)
+    some c a None e i = absurd (none-some _ i)
 
     none : (c : Comment) (f : Option Capture) → option_map (make c) f ≡ None → f ≡ None
-    none c (Some k) i = absurd (none-ne-some _ (sym i))
+    none c (Some k) i = absurd (none-some _ (sym i))
     none c None i = refl
 
 -- ---- rules from rules
@@ -78,7 +78,7 @@ module _ {A : Type 0} where
     where
       some : (c : Comment) (a : A) (x : Bool) → b c ≡ x → cond x (f c) None ≡ Some a → P c × r.Gives c a
       some c a true e i = ((t c).0 e, (h.gives c a).0 i)
-      some c a false e i = absurd (none-ne-some _ i)
+      some c a false e i = absurd (none-some _ i)
 
       none : (c : Comment) (x : Bool) → b c ≡ x → cond x (f c) None ≡ None → P c × r.Reads c → ⊥
       none c true e i (p, q) = (h.unread c).0 i q
@@ -106,7 +106,7 @@ module _ {A : Type 0} where
       none : (c : Comment) (x : Option A) → f c ≡ x → or_else x (g c) ≡ None → r.Reads c ⊎ s.Reads c → ⊥
       none c None e j (inl q) = (h.unread c).0 e q
       none c None e j (inr q) = (i.unread c).0 j q
-      none c (Some b) e j q = none-ne-some _ (sym j)
+      none c (Some b) e j q = none-some _ (sym j)
 
   -- what is made of a reading
   mapped : {B : Type 0} (m : Comment → A → B) {M : Comment → A → B → Type 0} → ((c : Comment) (a : A) → M c a (m c a))
@@ -118,12 +118,12 @@ module _ {A : Type 0} where
   }
     where
       some : (c : Comment) (b : B) (x : Option A) → f c ≡ x → option_map (m c) x ≡ Some b → (made M r).Gives c b
-      some c b None e i = absurd (none-ne-some _ i)
+      some c b None e i = absurd (none-some _ i)
       some c b (Some a) e i = let same : m c a ≡ b = cc in rw (← same) (a, (h.gives c a).0 e, is c a)
 
       none : (c : Comment) (x : Option A) → option_map (m c) x ≡ None → x ≡ None
       none c None i = refl
-      none c (Some a) i = absurd (none-ne-some _ (sym i))
+      none c (Some a) i = absurd (none-some _ (sym i))
 
 -- a rule
 pub ruled : (rule : Asks) (source : List ℕ) → Agrees (read_by rule source) (by_rule rule source)
@@ -184,7 +184,7 @@ module _ {A : Type 0} {f : Comment → Option A} {r : Reader A} (h : Agrees f r)
 
   first_some : (cs : List Comment) (a : A) → first_of f cs ≡ Some a → FirstReading r cs a
   unfolding first_of
-  first_some [] a e = absurd (none-ne-some _ e)
+  first_some [] a e = absurd (none-some _ e)
   first_some (c ∷ cs) a e = go (f c) refl e (first_some cs a)
     where
       go : (x : Option A) → f c ≡ x → or_else x (first_of f cs) ≡ Some a → (first_of f cs ≡ Some a → FirstReading r cs a) → FirstReading r (c ∷ cs) a
@@ -214,7 +214,7 @@ module _ {A : Type 0} {f : Comment → Option A} {r : Reader A} (h : Agrees f r)
     where
       go : (x : Option A) → f c ≡ x → or_else x (first_of f cs) ≡ None → (first_of f cs ≡ None → NoReading r cs) → NoReading r (c ∷ cs)
       go None i e more = unread_here ((h.unread c).0 i) (more e)
-      go (Some b) i e more = absurd (none-ne-some _ (sym e))
+      go (Some b) i e more = absurd (none-some _ (sym e))
 
   first_is : (before : List Comment) (c : Comment) (behind : List Comment) {a : A} → NoReading r before → r.Gives c a →
       first_of f (before ++ c ∷ behind) ≡ Some a
@@ -316,10 +316,10 @@ types_present t start = by_last (last_in t.comments (group_at t.groups Leading s
         → Exactly (λ x. (c : Comment) × (o ≡ Some c) × (by_ts_or_deno_types source).Gives c x)
         ((c : Comment) → o ≡ Some c → (by_ts_or_deno_types source).Reads c → ⊥) (types_by source o)
     by_last None = record {
-      some = λ x. (λ e. absurd (none-ne-some _ e), λ (c, e, g). absurd (none-ne-some _ e));
-      none = (λ e c i q. none-ne-some _ i, λ n. refl);
+      some = λ x. (λ e. absurd (none-some _ e), λ (c, e, g). absurd (none-some _ e));
+      none = (λ e c i q. none-some _ i, λ n. refl);
     }
     by_last (Some c) = record {
-      some = λ x. (λ e. (c, refl, (rule.gives c x).0 e), λ (d, e, g). rw (some-injective c d e) ((rule.gives d x).1 g));
-      none = (λ e d i q. (rule.unread d).0 (rw (some-injective c d i) at e) q, λ n. (rule.unread c).1 (n c refl));
+      some = λ x. (λ e. (c, refl, (rule.gives c x).0 e), λ (d, e, g). rw (same_Some c d e) ((rule.gives d x).1 g));
+      none = (λ e d i q. (rule.unread d).0 (rw (same_Some c d i) at e) q, λ n. (rule.unread c).1 (n c refl));
     }

@@ -1,7 +1,7 @@
 -- Each reference and pragma stands in the source at its reading's place, in marks or bare, as its rule's row asks.
 use Rattle.std.specs.Prelude.{Some, None}
 use Rattle.laws.proofs.Prelude.{◌≡◌, refl, sym, ◌∙◌, Bool, true, false, cond, inl, inr, ⊎_elim, List, [], ◌∷◌, Memᴰ, Memᴰ_head, Memᴰ_tail}
-use Rattle.laws.proofs.Prelude.{Memᴰ_not_nil, Memᴰ_cases_cons, Option, none-ne-some, ℕ, suc, ◌+◌, ◌-◌, ◌<◌, add-zero, sub-zero, arith}
+use Rattle.laws.proofs.Prelude.{Memᴰ_not_nil, Memᴰ_cases_cons, Option, none-some, ℕ, suc, ◌+◌, ◌-◌, ◌<◌, add-zero, sub-zero, arith}
 use Rattle.laws.proofs.Prelude.{length, get_or, drop, drop-drop}
 use Rattle.laws.specs.Codec.{All, IfThere}
 use Rattle.laws.proofs.Lists.{of_members, if_there, part_part, between_two, front_member, back_member, last_member, middle_member}
@@ -82,7 +82,7 @@ group_member cs None m = absurd (Memᴰ_not_nil m)
 group_member cs (Some g) m = back_member g.first cs (front_member g.count (drop g.first cs) m)
 
 pub last_in_lem : (cs : List Comment) (o : Option Group) {c : Comment} → last_in cs o ≡ Some c → Memᴰ c cs
-last_in_lem cs None {c} e = absurd (none-ne-some c e)
+last_in_lem cs None {c} e = absurd (none-some c e)
 last_in_lem cs (Some g) e = group_member cs (Some g) (last_member (comments_of cs g) e)
 
 pub given_member : (b : Bool) (cs : List Comment) {c : Comment} → Memᴰ c (cond b cs []) → Memᴰ c cs

@@ -169,7 +169,7 @@ fn replay(list: &[u8], buffer: &mut [u8]) -> Option<Counts>
         counts = counts.with(ran);
         next = behind;
     }
-    if next.is_empty() { Some(counts) } else { None }
+    next.is_empty().then_some(counts)
 }
 
 // The counts, or that the list is odd.
@@ -198,13 +198,7 @@ fn read_list(rt: &HostRuntime, space: &mut [u8]) -> io::Result<usize>
 fn main(rt: HostRuntime) -> io::Result<()> {
     let mut space = [0u8; SPACE];
     match read_list(&rt, &mut space) {
-        Ok(n) => {
-            if n < SPACE {
-                print_replay(&rt, &space[..n])
-            } else {
-                print_unreadable(&rt)
-            }
-        }
-        Err(_) => print_unreadable(&rt),
+        Ok(n) if n < SPACE => print_replay(&rt, &space[..n]),
+        _ => print_unreadable(&rt),
     }
 }

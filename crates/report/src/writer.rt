@@ -104,7 +104,7 @@ impl<'a> Writer<'a> {
         let mut i = 0;
         let mut count = 0;
         while i < s.len() {
-            if text::utf8::surrogate_at(s, i) {
+            if text::utf8::surrogate_at(&s[i..]) {
                 self.put_bytes(b"\xEF\xBF\xBD");
                 i += 3;
                 count += 1;
@@ -206,6 +206,6 @@ pub fn clear_from(out: &mut [u8], at: usize)
 pub fn refuse_all<E>(out: &mut [u8], refusal: E) -> Result<usize, E>
     ensures { (number : E → ℕ) → numbered_as number result out.new ≡ refused_with (number refusal) (length out.old) }
 {
-    clear_from(out, 0);
+    out.fill(0);
     Err(refusal)
 }

@@ -7,7 +7,7 @@ ghost use Rattle.laws.specs.code.Told.{Bounded};
 ghost use Rattle.wire.specs.Text.{encode_text};
 ghost use Rattle.wire.specs.Optional.{encode_optional};
 ghost use Rattle.report.specs.ModuleInfo.{SpecifierWithRange, KeyValue, DynamicTemplatePart};
-ghost use Rattle.report.specs.Encode.{encode_list, encode_range, encode_specifier};
+ghost use Rattle.report.specs.Encode.{encode_list, encode_position, encode_range, encode_specifier};
 ghost use Rattle.report.specs.Encode.{encode_key_value, encode_attributes};
 ghost use Rattle.report.specs.Valid.{Short, ValidPosition, ValidRange, ValidSpecifier};
 ghost use Rattle.report.specs.Valid.{ValidKeyValue, ValidAttributes};
@@ -17,11 +17,13 @@ use report::names::AttributesKind;
 use text::position::Position;
 use wire::Cursor;
 
-// The lines and columns of a start and of an end.
+// The lines and columns of a start and of an end, all of them numbers that can be written.
 #[derive(Clone, Copy)]
 pub struct PositionRange {
     pub start: Position,
     pub end: Position,
+    pub ghost start_valid: { ValidPosition start },
+    pub ghost end_valid: { ValidPosition end },
 }
 
 // A number, or a byte below 128, which is the number that it is.
@@ -48,28 +50,26 @@ pub fn read_text(s: &[u8]) -> (&[u8], &[u8])
     next.split_at_checked(n).unwrap_or((&[], next))
 }
 
-// A range: the lines and columns of its start and its end.
-#[tactic(auto, unfolding(report::specs::Encode::encode_range, report::specs::Encode::encode_position))]
-pub fn read_range(s: &[u8]) -> (PositionRange, &[u8])
+// A position: its line and its column.
+#[tactic(auto, unfolding(report::specs::Encode::encode_position))]
+fn read_position(s: &[u8]) -> (Position, &[u8])
     ensures { Bounded
-        (ReadsBack encode_range ValidRange s.now (record { start = result.0.start; end = result.0.end }) result.1.now)
-        (ValidPosition result.0.start × ValidPosition result.0.end) }
+        (ReadsBack encode_position ValidPosition s.now result.0 result.1.now)
+        (ValidPosition result.0) }
 {
-    let (start_line, next) = read_number(s);
-    let (start_column, next) = read_number(next);
-    let (end_line, next) = read_number(next);
-    let (end_column, next) = read_number(next);
-    let range = PositionRange {
-        start: Position {
-            line: start_line,
-            column: start_column,
-        },
-        end: Position {
-            line: end_line,
-            column: end_column,
-        },
-    };
-    (range, next)
+    let (line, next) = read_number(s);
+    let (column, next) = read_number(next);
+    (Position { line, column }, next)
+}
+
+// A range: the positions of its start and its end.
+#[tactic(auto, unfolding(report::specs::Encode::encode_range))]
+pub fn read_range(s: &[u8]) -> (PositionRange, &[u8])
+    ensures { ReadsBack encode_range ValidRange s.now (record { start = result.0.start; end = result.0.end }) result.1.now }
+{
+    let (start, next) = read_position(s);
+    let (end, next) = read_position(next);
+    (PositionRange { start, end }, next)
 }
 
 // What is skipped, after a flag or in a list.

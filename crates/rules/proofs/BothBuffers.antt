@@ -1,6 +1,6 @@
 -- What is answered of both buffers, the report's and that of the rules, is as demanded.
 use Rattle.laws.proofs.Prelude.{◌≡◌, refl, sym, ap, ◌∙◌, Bool, true, false, cond, ◌↔◌, List, [], ℕ, ◌≤◌, ◌<◌, arith, leb, length}
-use Rattle.laws.proofs.Prelude.{leb-true, leb-false, le-leb, lt-leb}
+use Rattle.laws.proofs.Prelude.{leb-true, leb-false, le-leb, lt-leb, length-append, length-replicate, false≢true}
 use Rattle.laws.{specs.Decoded.ok, specs.Decoded.no, proofs.Decoding.refused}
 use Rattle.wire.specs.Refusals.{of_sheets, one_of}
 use Rattle.wire.specs.Refusals as refusals
@@ -8,11 +8,13 @@ use Rattle.sheet.specs.{Sheet.Sheet, Sheet.accept, Judge.judge}
 use Rattle.sheet_codec.{specs.SheetOf.SheetOf, proofs.Sheets.accepts_exactly}
 use Rattle.sheet_codec.proofs.Refusals.{apart, Decision, decided, cut_off_lem, judged_sheet, judged_refusal}
 use Rattle.std.specs.Prelude.{Ok, Err}
+use Rattle.std.specs.Result.{is_err}
 use Rattle.wire.specs.declared.refusals.Refusal.TheVariants.{Rules}
 use Rattle.wire.{specs.declared.refusals.Refusal.Refusal, specs.Refusals.number_of, proofs.RefusalNumbers.some_number}
 use Rattle.report.specs.{ModuleInfo.ModuleInfo, Encode.encode}
 use Rattle.report.specs.Answer.{Answer, zeros, accepted, refused_with, fitted, outcome_as}
 use Rattle.module_info.{specs.Information.module_info, specs.Information.default_info, specs.Demands.Demands, proofs.Notes.refused_ten}
+use Rattle.rules.specs.code.Cleared.{cleared_as}
 use Rattle.rules.specs.Rules.{Ruled, rules_of, Answers, refused_both, both_fitted, both_of, both_as, report_of, DemandsOfBoth}
 use Rattle.module_info.proofs.Accepted.{same_sheet, formed_source, fit}
 use Rattle.module_info.proofs.Demanded.{demanded, refusal_demanded, empty_demanded}
@@ -48,12 +50,15 @@ module _ (size room : ℕ) where
   first_refused m b r {buffer} e = rw (refused_ten size r buffer m e, (refused_in size (encode m) r e).0)
 
   -- it has room, and the rules have none
-  pub second_refused : (a b : List ℕ) (r : Refusal) {n : ℕ} {buffer cleared rules : List ℕ} → outcome_as (Ok n) buffer ≡ fitted size a → cleared ≡ zeros size
-      → outcome_as (Err r) rules ≡ fitted room b → both_as (Err Rules) cleared rules ≡ both_fitted size room a b
+  pub second_refused : (a b : List ℕ) (r : Refusal) {n : ℕ} {buffer rules : List ℕ} → outcome_as (Ok n) buffer ≡ fitted size a
+      → outcome_as (Err r) rules ≡ fitted room b → cleared_as (Err Rules) buffer rules ≡ both_fitted size room a b
   unfolding both_fitted
-  second_refused a b r e zero f =
+  second_refused a b r {n} {buffer} e f =
+      let (fits, first) = accepted_in size a e in
       let (none, clear) = refused_in room b r f in
-      rw ((accepted_in size a e).0, none, zero, clear)
+      let few = leb-true (length a) size fits in
+      let long : length buffer ≡ size = ap (λ (x : Answer). length x.buffer) first ∙ simp (length-append, length-replicate) (omega (arith, few)) in
+      rw (fits, none, long, clear, length-replicate) refl
 
   -- or they have room too
   pub both_accepted : (a b : List ℕ) {n k : ℕ} {buffer rules : List ℕ} → outcome_as (Ok n) buffer ≡ fitted size a → outcome_as (Ok k) rules ≡ fitted room b
@@ -99,11 +104,25 @@ part_of (Err r) buffer rules = refl
 number_is : (o : Ruled) (buffer rules : List ℕ) {x : Answers} → both_as o buffer rules ≡ x → (outcome_as (report_of o) buffer).number ≡ x.report.number
 number_is o buffer rules e = ap (λ (x : Answer). x.number) (part_of o buffer rules) ∙ ap (λ (x : Answers). x.report.number) e
 
-module _ (s : List ℕ) {size room : ℕ} {o : Ruled} {buffer rules : List ℕ} where
+-- what the answer is, by what the bytes are
+module _ (s : List ℕ) (size room : ℕ) where
+  pub both_empty : s ≡ [] → both_of s size room ≡ both_fitted size room (encode default_info) []
+  unfolding both_of judge
+  both_empty e = rw e refl
+
+  pub both_refusal : {r : ℕ} → 0 < length s → accept s ≡ no r → both_of s size room ≡ refused_both r size room
+  unfolding both_of
+  both_refusal some e = rw (judged_refusal s some e) refl
+
+  pub both_sheet : {t : Sheet} → accept s ≡ ok t [] → both_of s size room ≡ both_fitted size room (encode (module_info t)) (rules_of t)
+  unfolding both_of
+  both_sheet e = rw (judged_sheet s e) refl
+
+module _ (s : List ℕ) {size room : ℕ} {o : Ruled} {buffer rules : List ℕ} (answer : both_as o buffer rules ≡ both_of s size room) where
   -- where the bytes are no sheet
-  no_sheet : ((t : Sheet) → SheetOf s t → ⊥) → both_as o buffer rules ≡ both_of s size room → ((outcome_as (report_of o) buffer).number ≡ refusals.rules → ⊥)
+  no_sheet : ((t : Sheet) → SheetOf s t → ⊥) → ((outcome_as (report_of o) buffer).number ≡ refusals.rules → ⊥)
       → Demands s size (report_of o) buffer → DemandsOfBoth s size room o buffer rules
-  no_sheet none answer other report = record {
+  no_sheet none other report = record {
     answer = answer;
     complete = λ t h. absurd (none t h);
     sixteen = (λ e. absurd (other e), λ (t, h, i, j). absurd (none t h));
@@ -111,44 +130,57 @@ module _ (s : List ℕ) {size room : ℕ} {o : Ruled} {buffer rules : List ℕ} 
     origins = λ t h. absurd (none t h);
   }
 
-  pub empty_both : s ≡ [] → both_as o buffer rules ≡ both_fitted size room (encode default_info) [] → DemandsOfBoth s size room o buffer rules
-  unfolding both_of judge
-  empty_both e answer =
+  empty_right : s ≡ [] → DemandsOfBoth s size room o buffer rules
+  empty_right e =
+      let is = answer ∙ both_empty s size room e in
       let other : (outcome_as (report_of o) buffer).number ≡ refusals.rules →
-      ⊥ = λ f. omega (arith, ((is_sixteen size room (encode default_info) []).0 (sym (number_is o buffer rules answer) ∙ f)).1) in
-      no_sheet (λ t h. refused (sym cut_off_lem ∙ (rw e at ((accepts_exactly s t).1 h)))) (rw e answer) other
-      (empty_demanded s e (part_of o buffer rules ∙ as_before size room (encode default_info) [] answer (λ f. other (number_is o buffer rules refl ∙ f))))
+      ⊥ = λ f. omega (arith, ((is_sixteen size room (encode default_info) []).0 (sym (number_is o buffer rules is) ∙ f)).1) in
+      no_sheet (λ t h. refused (sym cut_off_lem ∙ (rw e at ((accepts_exactly s t).1 h)))) other
+      (empty_demanded s e (part_of o buffer rules ∙ as_before size room (encode default_info) [] is (λ f. other (number_is o buffer rules refl ∙ f))))
 
-  pub refusal_both : {r : ℕ} → 0 < length s → accept s ≡ no r → both_as o buffer rules ≡ refused_both r size room → DemandsOfBoth s size room o buffer rules
-  unfolding both_of one_of
-  refusal_both {r} some e answer =
-      no_sheet (λ t h. refused (sym e ∙ (accepts_exactly s t).1 h)) (rw (judged_refusal s some e) answer)
-      (λ f. by (decided s) (sym (number_is o buffer rules answer) ∙ f))
-      (refusal_demanded s some e (part_of o buffer rules ∙ ap (λ (x : Answers). x.report) answer))
-    where
-      by : Decision s → r ≡ refusals.rules → ⊥
-      by (Decision.empty f) i = omega (arith, some, ap length f)
-      by (Decision.accepted t f) i = refused (sym e ∙ f)
-      by (Decision.refused q among _ f) i =
-          let g : no q ≡ no r = sym f ∙ e in
-          let same : q ≡ refusals.rules = cc in
-          apart of_sheets among same refl
+  refusal_right : {r : ℕ} → one_of of_sheets r ≡ true → 0 < length s → accept s ≡ no r → DemandsOfBoth s size room o buffer rules
+  unfolding one_of
+  refusal_right among some e =
+      let is = answer ∙ both_refusal s size room some e in
+      no_sheet (λ t h. refused (sym e ∙ (accepts_exactly s t).1 h))
+      (λ f. apart of_sheets among (sym (number_is o buffer rules is) ∙ f) refl)
+      (refusal_demanded s some e (part_of o buffer rules ∙ ap (λ (x : Answers). x.report) is))
 
-  pub sheet_both : {t : Sheet} → accept s ≡ ok t [] → both_as o buffer rules ≡ both_fitted size room (encode (module_info t)) (rules_of t)
-      → DemandsOfBoth s size room o buffer rules
-  unfolding both_of
-  sheet_both {t} e answer = record {
-    answer = rw (judged_sheet s e) answer;
-    complete = λ u h. rw (same_sheet ((accepts_exactly s u).1 h) e) answer;
+  sheet_right : {t : Sheet} → accept s ≡ ok t [] → DemandsOfBoth s size room o buffer rules
+  sheet_right {t} e = record {
+    answer = answer;
+    complete = λ u h. rw (same_sheet ((accepts_exactly s u).1 h) e) is;
     sixteen = (
       λ f.
-          let (room_first, none_second) = (is_sixteen size room _ _).0 (sym (number_is o buffer rules answer) ∙ f) in
+          let (room_first, none_second) = (is_sixteen size room _ _).0 (sym (number_is o buffer rules is) ∙ f) in
           (t, (accepts_exactly s t).0 e, room_first, none_second),
       λ (u, h, i, j).
-          let is = same_sheet ((accepts_exactly s u).1 h) e in
-          number_is o buffer rules answer ∙ (is_sixteen size room _ _).1 (rw is at i, rw is at j),
+          let same = same_sheet ((accepts_exactly s u).1 h) e in
+          number_is o buffer rules is ∙ (is_sixteen size room _ _).1 (rw same at i, rw same at j),
     );
     report = λ other. demanded e
-        (part_of o buffer rules ∙ as_before size room (encode (module_info t)) (rules_of t) answer (λ f. other (number_is o buffer rules refl ∙ f)));
+        (part_of o buffer rules ∙ as_before size room (encode (module_info t)) (rules_of t) is (λ f. other (number_is o buffer rules refl ∙ f)));
     origins = λ u h. rules_right u (formed_source s ((accepts_exactly s u).1 h)) (fit s ((accepts_exactly s u).1 h));
   }
+    where
+      is : both_as o buffer rules ≡ both_fitted size room (encode (module_info t)) (rules_of t)
+      is = answer ∙ both_sheet s size room e
+
+  pub both_right : DemandsOfBoth s size room o buffer rules
+  both_right = by (decided s)
+    where
+      by : Decision s → DemandsOfBoth s size room o buffer rules
+      by (Decision.empty e) = empty_right e
+      by (Decision.accepted t e) = sheet_right e
+      by (Decision.refused r among some e) = refusal_right among some e
+
+-- an answer of refusal, whose buffers are cleared then, and one of acceptance
+module _ (buffer rules : List ℕ) where
+  pub cleared_refusal : (o : Ruled) {cleared cleared' : List ℕ} → is_err o ≡ true → cleared ≡ zeros (length buffer) → cleared' ≡ zeros (length rules)
+      → both_as o cleared cleared' ≡ cleared_as o buffer rules
+  cleared_refusal (Ok l) h e f = absurd (false≢true h)
+  cleared_refusal (Err r) h e f = rw (e, f)
+
+  pub cleared_accepted : (o : Ruled) → is_err o ≡ false → both_as o buffer rules ≡ cleared_as o buffer rules
+  cleared_accepted (Ok l) h = refl
+  cleared_accepted (Err r) h = absurd (false≢true (sym h))

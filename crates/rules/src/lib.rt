@@ -1,9 +1,8 @@
 // Each entry with its rule: beside the report, how each types specifier, reference, pragma and JSDoc import was found.
 #![tactic(auto)]
 
-ghost use Rattle.std.specs.Prelude.{◌≡◌, ℕ, ◌+◌, ◌*◌, length, Ok};
+ghost use Rattle.std.specs.Prelude.{◌≡◌, ℕ, length, Ok};
 ghost use mathlib.Core.List.{List, [], flat_map};
-ghost use Rattle.sheet.specs.Limits.{entry_limit};
 ghost use Rattle.report.specs.Buffer.{Wrote};
 ghost use Rattle.report.specs.Origin.{encode_origin};
 ghost use Rattle.report.specs.Encode.{encode};
@@ -14,14 +13,14 @@ ghost use Rattle.module_info.specs.Replaced.{noted, notes_with};
 ghost use Rattle.module_info.specs.code.Pieces.{commented};
 ghost use Rattle.rules.specs.code.Pieces.{comment_origins, types_bytes};
 ghost use Rattle.rules.specs.code.Rows.{starts_in};
-ghost use Rattle.wire.specs.Refusals.{number_of};
-ghost use Rattle.rules.specs.Rules.{Ruled, rules_of, refused_both, both_fitted, both_as, DemandsOfBoth, ruled_number, ruled_lengths};
+ghost use Rattle.rules.specs.code.Cleared.{cleared_as};
+ghost use Rattle.rules.specs.Rules.{Ruled, rules_of, both_fitted, both_of, DemandsOfBoth, ruled_number, ruled_lengths};
 
 use jsdoc_list::notes::put_jsdoc_origins;
 use module_info::judge::{Accepted, judge};
 use module_info::{write_default, write_noted_report};
 use pragmas::origins::{put_end_origins, put_head_origins, put_types_origins};
-use report::writer::{Outcome, Writer, clear_from};
+use report::writer::{Outcome, Writer};
 use sheet::limits::{ENTRY_LIMIT, SOURCE_LIMIT};
 use sheet::tables::Tables;
 use wire::refusals::Refusal;
@@ -40,8 +39,7 @@ pub type Ruled = Result<Lengths, Refusal>;
 const NOTE_NUMBERS: usize = 1 + 2 * ENTRY_LIMIT;
 
 // The rows in the notes of an accepted sheet, one for each dependency.
-fn rows_in<'a>(accepted: &Accepted, notes: &'a [usize]) -> &'a [[usize; 2]]
-    requires { length notes.now ≡ 1 + 2 * entry_limit }
+fn rows_in<'a>(accepted: &Accepted, notes: &'a [usize; NOTE_NUMBERS]) -> &'a [[usize; 2]]
     ensures { notes.now ≡ notes_with (length notes.now) (noted accepted.now.sheet) 0
         → starts_in result.now ≡ starts_of (noted accepted.now.sheet) }
 {
@@ -61,18 +59,15 @@ fn put_types_rules(accepted: &Accepted, rows: &[[usize; 2]], w: &mut Writer)
 }
 
 // Writes those of what the head group gives, of the JSDoc imports and of the source map.
-#[tactic(auto, using(report::proofs::Buffers::more_append, laws::proofs::Lists::flat_map_append), unfolding(crate::specs::code::Pieces::comment_origins, pragmas::specs::Pragmas::head_comments, pragmas::specs::Pragmas::end_comments))]
+#[tactic(auto, using(report::proofs::Buffers::more_append, laws::proofs::Lists::flat_map_append), unfolding(crate::specs::code::Pieces::comment_origins))]
 fn put_comment_rules(accepted: &Accepted, w: &mut Writer)
     ensures { Wrote w.old w.new (flat_map encode_origin (comment_origins accepted.now.sheet)) }
 {
-    let comments = accepted.comments();
-    let parts = accepted.parts();
-    let head = comments.of(comments.head_group(parts.tree.program));
-    put_head_origins(parts.front.media, &head, w);
+    let media = accepted.parts().front.media;
+    put_head_origins(media, &accepted.head_comments(), w);
     let mut origins = [0u16; SOURCE_LIMIT];
-    put_jsdoc_origins(parts.front.media, &comments, &mut origins, w);
-    let end = comments.of(comments.end_group(parts.tree.program));
-    put_end_origins(&end, w);
+    put_jsdoc_origins(media, &accepted.comments(), &mut origins, w);
+    put_end_origins(&accepted.end_comments(), w);
 }
 
 // Writes the rules of an accepted sheet, with the starts of its dependencies' nodes in the rows.
@@ -85,59 +80,48 @@ fn put_rules(accepted: &Accepted, rows: &[[usize; 2]], w: &mut Writer)
     put_comment_rules(accepted, w);
 }
 
-// A refusal: both buffers are zero.
-fn refuse_both(refusal: Refusal, first: &mut [u8], second: &mut [u8]) -> Ruled
-    ensures { both_as result first.new second.new
-        ≡ refused_both (number_of refusal) (length first.old) (length second.old) }
-{
-    clear_from(first, 0);
-    clear_from(second, 0);
-    Err(refusal)
-}
-
-// Both lengths, where the rules found room beside an accepted report of that length; else refusal 16, and the report's buffer is zero too.
-fn finish_rules(size: usize, rules: Outcome, buffer: &mut [u8]) -> Ruled
-    ensures { (a b out : List ℕ) (room : ℕ) → outcome_as (Ok size) buffer.old ≡ fitted (length buffer.old) a
+// Both lengths, where the rules found room beside an accepted report of that length; else refusal 16.
+fn finish_rules(report: usize, rules: Outcome) -> Ruled
+    ensures { (a b buffer out : List ℕ) (size room : ℕ) → outcome_as (Ok report) buffer ≡ fitted size a
         → outcome_as rules out ≡ fitted room b
-        → both_as result buffer.new out ≡ both_fitted (length buffer.old) room a b }
+        → cleared_as result buffer out ≡ both_fitted size room a b }
 {
     match rules {
-        Ok(length) => Ok(Lengths {
-            report: size,
-            rules: length,
-        }),
-        Err(_) => {
-            clear_from(buffer, 0);
-            Err(Refusal::Rules)
-        }
+        Ok(rules) => Ok(Lengths { report, rules }),
+        Err(_) => Err(Refusal::Rules),
     }
 }
 
 // The report of an accepted sheet, and its rules.
 fn write_ruled_report(accepted: &Accepted, buffer: &mut [u8], rules: &mut [u8]) -> Ruled
-    ensures { both_as result buffer.new rules.new
+    ensures { cleared_as result buffer.new rules.new
         ≡ both_fitted (length buffer.old) (length rules.old)
         (encode (module_info accepted.now.sheet)) (rules_of accepted.now.sheet) }
 {
     let mut notes = [0usize; NOTE_NUMBERS];
-    match write_noted_report(accepted, buffer, &mut notes) {
-        Err(refusal) => refuse_both(refusal, buffer, rules),
-        Ok(n) => {
-            let mut w = Writer::new(rules);
-            put_rules(accepted, rows_in(accepted, &notes), &mut w);
-            finish_rules(n, w.finish(), buffer)
-        }
-    }
+    let report = write_noted_report(accepted, buffer, &mut notes)?;
+    let mut w = Writer::new(rules);
+    put_rules(accepted, rows_in(accepted, &notes), &mut w);
+    finish_rules(report, w.finish())
 }
 
 // The default report, without rules.
 fn write_ruled_default(buffer: &mut [u8], rules: &mut [u8]) -> Ruled
-    ensures { both_as result buffer.new rules.new
+    ensures { cleared_as result buffer.new rules.new
         ≡ both_fitted (length buffer.old) (length rules.old) (encode default_info) [] }
 {
-    match write_default(buffer) {
-        Err(refusal) => refuse_both(refusal, buffer, rules),
-        Ok(n) => finish_rules(n, Writer::new(rules).finish(), buffer),
+    let report = write_default(buffer)?;
+    finish_rules(report, Writer::new(rules).finish())
+}
+
+// The report of a sheet and its rules; or the first refusal, which leaves both buffers free.
+fn write_both(sheet: &[u8], buffer: &mut [u8], rules: &mut [u8]) -> Ruled
+    ensures { cleared_as result buffer.new rules.new ≡ both_of sheet.now (length buffer.old) (length rules.old) }
+{
+    let mut tables = Tables::new();
+    match judge(sheet, &mut tables)? {
+        None => write_ruled_default(buffer, rules),
+        Some(accepted) => write_ruled_report(&accepted, buffer, rules),
     }
 }
 
@@ -146,22 +130,22 @@ pub fn with_rules(sheet: &[u8], buffer: &mut [u8], rules: &mut [u8]) -> Ruled
     ensures { DemandsOfBoth sheet.now (length buffer.old) (length rules.old) result
         buffer.new rules.new }
 {
-    let mut tables = Tables::new();
-    match judge(sheet, &mut tables) {
-        Ok(None) => write_ruled_default(buffer, rules),
-        Ok(Some(accepted)) => write_ruled_report(&accepted, buffer, rules),
-        Err(refusal) => refuse_both(refusal, buffer, rules),
+    let answer = write_both(sheet, buffer, rules);
+    if answer.is_err() {
+        buffer.fill(0);
+        rules.fill(0);
     }
+    answer
 }
 
 // Both lengths of an answer, for C.
-fn put_lengths(answer: Ruled, lengths: &mut [u64; 2])
-    ensures { lengths.new ≡ ruled_lengths answer }
+fn lengths_of(answer: Ruled) -> [u64; 2]
+    ensures { result ≡ ruled_lengths answer }
 {
-    *lengths = match answer {
+    match answer {
         Ok(both) => [both.report as u64, both.rules as u64],
         Err(_) => [0; 2],
-    };
+    }
 }
 
 // Its number.
@@ -186,6 +170,6 @@ pub fn module_info_with_rules(
         × (result ≡ ruled_number o) × (lengths.new ≡ ruled_lengths o) }
 {
     let answer = with_rules(sheet, buffer, rules);
-    put_lengths(answer, lengths);
+    *lengths = lengths_of(answer);
     ruled_number(answer)
 }

@@ -1,8 +1,8 @@
 -- What is known of a comment, and of the groups that are looked up.
-use Rattle.laws.proofs.Prelude.{◌≡◌, Bool, true, false, cond, List, [], ◌∷◌, Option, none-ne-some, ℕ, suc, ◌≤◌, ◌<◌, zero-le, suc-le-suc}
+use Rattle.laws.proofs.Prelude.{◌≡◌, Bool, true, false, cond, List, [], ◌∷◌, Option, none-some, ℕ, suc, ◌≤◌, ◌<◌, zero-le, suc-le-suc}
 use Rattle.laws.proofs.Prelude.{length}
 use Rattle.std.specs.Prelude.{None, Option, Some}
-use Rattle.laws.proofs.Options.{some-injective}
+use Rattle.std.proofs.lemmas.Option.{same_Some}
 use Rattle.sheet.specs.{declared.comments.Comment.Comment, declared.groups.Group.Group, Program.Program, declared.names.Side.Side}
 use Rattle.sheet.specs.Fit.{Placed, Reaching, group_of, Grouped}
 use Rattle.sheet.specs.declared.names.Side.TheVariants.{Leading, Trailing}
@@ -16,11 +16,11 @@ placed_within source c p = p.end.0
 found_each : (Q : Group → Type 0) (gs : List Group) (side : Side) (position : ℕ) → ((k : ℕ) → k < length gs → Q (group_of gs k)) → {g : Group}
     → group_at gs side position ≡ Some g → Q g
 unfolding group_at
-found_each Q [] side position q {g} e = absurd (none-ne-some g e)
+found_each Q [] side position q {g} e = absurd (none-some g e)
 found_each Q (h ∷ gs) side position q {g} e = go (stands_at h side position) e (found_each Q gs side position (λ k l. q (suc k) (suc-le-suc l)))
   where
     go : (b : Bool) → cond b (Some h) (group_at gs side position) ≡ Some g → (group_at gs side position ≡ Some g → Q g) → Q g
-    go true e more = rw (← some-injective h g e) (q 0 (suc-le-suc zero-le))
+    go true e more = rw (← same_Some h g e) (q 0 (suc-le-suc zero-le))
     go false e more = more e
 
 module _ {total : ℕ} {gs : List Group} (h : Grouped total gs) where

@@ -1,8 +1,8 @@
 -- The walk makes the visits that it should, in their order, and a node is refused by 9 exactly where one of them is a call that meets it.
 use Rattle.std.specs.Prelude.{Some, None}
-use Rattle.laws.proofs.Prelude.{◌≡◌, refl, sym, ap, ◌∙◌, Bool, true, false, cond, false≢true, ◌&&◌, ◌||◌, or-true, List, [], ◌∷◌, ◌++◌, append-nil}
+use Rattle.laws.proofs.Prelude.{◌≡◌, refl, sym, ap, ◌∙◌, Bool, true, false, cond, false≢true, and-eq-true_iff, ◌||◌, or-true, List, [], ◌∷◌, ◌++◌, append-nil}
 use Rattle.laws.proofs.Prelude.{append_assoc, flat_map, Memᴰ, Memᴰ_head, Memᴰ_tail, Memᴰ_not_nil, Memᴰ_cases_cons, ◌↔◌, ⊎_elim, ◌⊎◌}
-use Rattle.laws.proofs.Prelude.{inl, inr, Option, none-ne-some}
+use Rattle.laws.proofs.Prelude.{inl, inr, Option, none-some}
 use mathlib.Core.List.Memᴰ
 use Rattle.laws.specs.{Codec.All, Ascii.ascii}
 use Rattle.laws.proofs.Lists.{flat_map_append, all_append, all_member, of_members, PartOf, part_whole, part_inner, part_member, part_flat_map}
@@ -206,7 +206,7 @@ uncooked_piece : (ps : Pieces) → (any_uncooked ps ≡ true) ↔ Memᴰ None ps
 uncooked_piece [] = (λ e. absurd (false≢true e), λ m. absurd (Memᴰ_not_nil m))
 uncooked_piece (None ∷ ps) = (λ e. Memᴰ_head refl, λ m. refl)
 uncooked_piece (Some x ∷ ps) =
-    (λ e. Memᴰ_tail ((uncooked_piece ps).0 e), λ m. ⊎_elim (λ e. absurd (none-ne-some x e)) (λ i. (uncooked_piece ps).1 i) (Memᴰ_cases_cons m))
+    (λ e. Memᴰ_tail ((uncooked_piece ps).0 e), λ m. ⊎_elim (λ e. absurd (none-some x e)) (λ i. (uncooked_piece ps).1 i) (Memᴰ_cases_cons m))
 
 uncooked_shape : (s : Shape) → is_uncooked s ≡ true → (ps : Pieces) × (s ≡ pieces ps) × Memᴰ None ps
 uncooked_shape (text x) e = absurd (false≢true e)
@@ -231,11 +231,6 @@ first_uncooked_lem (argument dots at n xs) e = let (ps, i, m) = uncooked_shape (
 uncooked_first_lem : {xs : Arguments} → UncookedFirst xs → first_uncooked xs ≡ true
 uncooked_first_lem (uncooked_first ps e m) = rw e ((uncooked_piece ps).1 m)
 
--- both of two tests
-both_true : (a b : Bool) → a && b ≡ true → (a ≡ true) × (b ≡ true)
-both_true true b e = (refl, e)
-both_true false b e = absurd (false≢true e)
-
 abbrev of_visit : Option Visit → Bool
 of_visit None = false
 of_visit (Some v) = refused v
@@ -252,7 +247,7 @@ meets_nine m v o r = go m (rw o r)
     go (object sp ps) e = absurd (false≢true e)
     go (import_call sp phase xs ns) e = of_import (first_uncooked_lem xs e)
     go (call sp c xs ns) e =
-        let (i, j) = both_true (is_require (shape c)) (first_uncooked xs) e in of_require (require_shape (shape c) i) (first_uncooked_lem xs j)
+        let (i, j) = (and-eq-true_iff (is_require (shape c)) (first_uncooked xs)).0 e in of_require (require_shape (shape c) i) (first_uncooked_lem xs j)
     go (import_decl sp type_only phase side_effect x a) e = absurd (false≢true e)
     go (named_export sp type_only) e = absurd (false≢true e)
     go (export_from sp type_only x a) e = absurd (false≢true e)

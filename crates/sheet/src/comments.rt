@@ -1,6 +1,5 @@
 // Comments, read into a table.
-ghost use Rattle.std.specs.Prelude.{◌≡◌, ◌<◌, List, ℕ, length};
-ghost use Rattle.std.specs.Borrow.{Bor};
+ghost use Rattle.std.specs.Prelude.{◌≡◌, ◌<◌, length};
 ghost use Rattle.laws.specs.code.Told.{Told};
 ghost use Rattle.wire.specs.code.Views.{read_as, Past};
 ghost use Rattle.sheet.specs.Comments.{opening, closing, enclosed, marked, comment, comments};
@@ -64,16 +63,15 @@ fn is_enclosed(text: &[u8], front: &[u8], back: &[u8]) -> bool
     front.len() + back.len() <= text.len() && text.starts_with(front) && text.ends_with(back)
 }
 
-// What is made of the marks that open and close a comment of a kind: called in each arm, `with` is compiled for each pair of marks.
-pub(crate) fn by_marks<'a, T, F: Fn(&'a [u8], &'a [u8]) -> T>(kind: CommentKind, with: F) -> T
-    requires { F.IsAlwaysCallable with }
-    ensures { (front : Bor (List ℕ)) × ((back : Bor (List ℕ)) × ((front.now ≡ opening kind) × (back.now ≡ closing kind) × F.post with front back result)) }
+// The marks that open and close a comment of a kind.
+pub(crate) fn marks(kind: CommentKind) -> (&'static [u8], &'static [u8])
+    ensures { (result.0.now ≡ opening kind) × (result.1.now ≡ closing kind) }
 {
     match kind {
-        CommentKind::Line => with(b"//", b""),
-        CommentKind::Block => with(b"/*", b"*/"),
-        CommentKind::HtmlOpen => with(b"<!--", b""),
-        CommentKind::HtmlClose => with(b"-->", b""),
+        CommentKind::Line => (b"//", b""),
+        CommentKind::Block => (b"/*", b"*/"),
+        CommentKind::HtmlOpen => (b"<!--", b""),
+        CommentKind::HtmlClose => (b"-->", b""),
     }
 }
 
@@ -82,7 +80,8 @@ pub(crate) fn by_marks<'a, T, F: Fn(&'a [u8], &'a [u8]) -> T>(kind: CommentKind,
 fn is_marked(text: &[u8], kind: CommentKind) -> bool
     ensures { result ≡ marked kind text.now }
 {
-    by_marks(kind, |front, back| is_enclosed(text, front, back))
+    let (front, back) = marks(kind);
+    is_enclosed(text, front, back)
 }
 
 // A comment that starts no earlier than `last`, the end of the one before.

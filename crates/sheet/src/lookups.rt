@@ -4,7 +4,7 @@ ghost use Rattle.sheet.specs.code.Tables.{groups_in};
 ghost use Rattle.sheet.specs.Fit.{Ascending};
 ghost use Rattle.sheet.specs.Lookups.{group_at, end_group, head_group, HoldsMarks, body_span, body};
 
-use super::comments::{Comment, by_marks};
+use super::comments::{Comment, marks};
 use super::fields::Span;
 use super::groups::{Group, GroupRow};
 use super::names::Side;
@@ -76,9 +76,9 @@ pub fn body_span(c: Comment) -> Span
     requires { HoldsMarks c }
     ensures { result ≡ body_span c }
 {
-    let (front, back) = by_marks(c.kind, |front, back| (front.len(), back.len()));
-    let start = c.span.start + front;
-    let end = c.span.end - back;
+    let (front, back) = marks(c.kind);
+    let start = c.span.start + front.len();
+    let end = c.span.end - back.len();
     Span { start, end }
 }
 

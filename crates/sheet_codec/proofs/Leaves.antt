@@ -2,6 +2,7 @@
 use Rattle.laws.proofs.Prelude.{◌≡◌, refl, sym, ap, ◌∙◌, Bool, true, false, cond, ◌&&◌, true≢false, ⊎_elim, List, [], ◌∷◌, ◌++◌, append-nil, ℕ, zero, suc}
 use Rattle.laws.proofs.Prelude.{◌≤◌, ◌<◌, not-suc-le-zero, arith, eqb, leb, ltb, length, take, drop, replicate, length-replicate, length-append, ltb-true}
 use Rattle.laws.proofs.Prelude.{ltb-false, leb-false, eqb-true, lt-ltb, eq-eqb}
+use Rattle.std.proofs.lemmas.List.{nil_from_length}
 use Rattle.laws.specs.Decoded.{ok, no, ◌>>=◌, ◌>>◌, return, require}
 use Rattle.laws.proofs.Decoding.{refused, then_ok, then_refused, require_ok}
 use Rattle.text.{specs.declared.utf8.Encoding.Encoding, specs.Utf8.well_formed, proofs.WellFormed.well_formed_iff}
@@ -141,10 +142,6 @@ bytes_cut n s r e = go (leb n (length s)) refl e
     go true i e = absurd (refused (sym e))
     go false i e = (cc, leb-false n (length s) i)
 
-nothing_left : (l : List ℕ) → length l ≡ 0 → l ≡ []
-nothing_left [] e = refl
-nothing_left (x ∷ l) e = absurd (omega (arith, e))
-
 -- the bytes of a text
 module _ (e : Encoding) (n : ℕ) where
   bytes_refuses : (s : List ℕ) (r : ℕ) → (wire.bytes n >>= λ x. require (well_formed e x) 5 >> return x) s ≡ no r
@@ -179,7 +176,7 @@ module _ (e : Encoding) (n : ℕ) where
       fits : (x : List ℕ) → length x ≡ n → well_formed e x ≡ true → (r : ℕ) → Breaks (text e n) x r → ⊥
       fits x long formed r (few_bytes h) = omega arith
       fits x long formed r (ill_formed y rest i j h) =
-          let none : rest ≡ [] = nothing_left rest (omega (arith, ap length i, length-append y rest)) in
+          let none : rest ≡ [] = nil_from_length rest (omega (arith, ap length i, length-append y rest)) in
           let same : x ≡ y = i ∙ ap (y ++◌) none ∙ append-nil y in
           h ((well_formed_iff e y).0 (rw same at formed))
 

@@ -1,5 +1,5 @@
 -- What is judged at each field that is a number.
-use Rattle.std.specs.Prelude.{Some, None}
+use Rattle.std.{specs.Prelude.Some, specs.Prelude.None, proofs.lemmas.Bool.false_from_ne_true}
 use Rattle.laws.proofs.Prelude.{◌≡◌, refl, sym, ◌∙◌, Bool, true, false, ◌&&◌, true≢false, and-eq-true_iff, ◌⊎◌, inl, inr, ⊎_elim, List, [], ◌∷◌, ◌++◌}
 use Rattle.laws.proofs.Prelude.{append-nil, Option, ℕ, zero, suc, ◌+◌, ◌≤◌, ◌<◌, arith, leb, ltb, leb-false, lt-leb, lt-ltb}
 use Rattle.laws.specs.Decoded.{ok, no, Decoder, ◌>>=◌, ◌>>◌, return, require}
@@ -19,11 +19,6 @@ use Rattle.sheet_codec.specs.Breaks.{Shows, Wrong, over, outside, reversed, stri
 use Rattle.sheet_codec.specs.Breaks.{beyond, unquoted, Breaks, no_number, wrong}
 use Rattle.sheet_codec.specs.FieldsOf.{a_number}
 use Rattle.sheet_codec.proofs.Fields.{FieldsOf, Any, field}
-
--- a test that does not hold is false
-is_false : (b : Bool) → (b ≡ true → ⊥) → b ≡ false
-is_false true h = absurd (h refl)
-is_false false h = refl
 
 -- one number stands in front
 shown : {u : List ℕ} {n : ℕ} (h : Shows u n) → wire.number u ≡ ok n h.rest
@@ -122,7 +117,7 @@ no_marks : (source : List ℕ) (kind : CommentKind) (from n : ℕ) →
     ((body : List ℕ) → slice source (record { start = from; end = n }) ≡ opening kind ++ (body ++ closing kind) → ⊥)
     → marked kind (slice source (record { start = from; end = n })) ≡ false
 unfolding marked
-no_marks source kind from n h = is_false _ (λ m. let (body, e) = enclosed_sound (opening kind) (closing kind) _ m in h body e)
+no_marks source kind from n h = false_from_ne_true _ (λ m. let (body, e) = enclosed_sound (opening kind) (closing kind) _ m in h body e)
 
 -- in document 01's words
 failing_wrong : (f : Number) (n q : ℕ) → Failing f n q → Wrong f n q
@@ -149,20 +144,20 @@ failing_wrong (group_count total first) n q (e, i) = rw e (reach n (ltb 0 n) ref
 
 wrong_failing : {f : Number} {n q : ℕ} → Wrong f n q → Failing f n q
 wrong_failing (over {c = c} {n = n} h) = (refl, lt-leb n (limit c) h)
-wrong_failing (outside {source = source} {n = n} h) = inl (refl, is_false (is_boundary source n) (λ i. h ((is_boundary_iff source n).0 i)))
+wrong_failing (outside {source = source} {n = n} h) = inl (refl, false_from_ne_true (is_boundary source n) (λ i. h ((is_boundary_iff source n).0 i)))
 wrong_failing (reversed {start = from} {n = n} h) = inr (refl, lt-leb from n h)
 wrong_failing (string_reversed {start = from} {n = n} h) = inr (inl (refl, lt-leb from n h))
 wrong_failing (comment_reversed {start = from} {n = n} h) = inr (inl (refl, lt-leb from n h))
 wrong_failing (early {last = last} {n = n} h) = inr (refl, lt-leb last n h)
 wrong_failing (unmarked {source = source} {kind = kind} {start = from} {n = n} h) = inr (inr (refl, no_marks source kind from n h))
 wrong_failing (unquoted {source = source} {start = from} {n = n} h) = inr
-    (inr (refl, is_false _ (λ i. h ((looks_quoted_iff (slice source (record { start = from; end = n }))).0 i))))
+    (inr (refl, false_from_ne_true _ (λ i. h ((looks_quoted_iff (slice source (record { start = from; end = n }))).0 i))))
 wrong_failing (disordered {g = g} {side = side} {n = n} h) =
-    inr (refl, is_false (may_follow g side n) (λ i. h (by_order g.side g.position side n i)))
+    inr (refl, false_from_ne_true (may_follow g side n) (λ i. h (by_order g.side g.position side n i)))
 wrong_failing (empty {total = total} {first = first} {n = n} e) = (refl, rw e)
 wrong_failing (beyond {total = total} {first = first} {n = n} h) = (
   refl,
-  is_false (ltb 0 n && leb (first + n) total)
+  false_from_ne_true (ltb 0 n && leb (first + n) total)
       (λ i. true≢false (sym ((and-eq-true_iff (ltb 0 n) (leb (first + n) total)).0 i).1 ∙ lt-leb (first + n) total h)),
 )
 

@@ -41,5 +41,4 @@ module _ (source : List ℕ) (levels : ℕ) (sp : Span) (P : Node → Type 0) wh
   shape_by_head (head.ImportType x n) h = behind (type_rest inner object' n) λ p. ends (h.others _ refl)
   shape_by_head head.ImportEquals h = ends (h.others _ refl)
   shape_by_head (head.ImportRequire d) h = ends (h.others _ refl)
-  shape_by_head (head.Module n) h = behind (nodes inner n) λ ns. ends (h.others _ refl)
-  shape_by_head (head.NamedModule x n) h = behind (nodes inner n) λ ns. ends (h.others _ refl)
+  shape_by_head (head.Module x n) h = behind (nodes inner n) λ ns. ends (h.others _ refl)

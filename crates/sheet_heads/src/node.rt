@@ -74,9 +74,8 @@ pub enum Head<'a> {
     ImportEquals,
     // External.
     ImportRequire(RequireHead<'a>),
-    // The number of children, without and with a String.
-    Module(usize),
-    NamedModule(Quoted<'a>, usize),
+    // The String, if there is one, and the number of children.
+    Module(Option<Quoted<'a>>, usize),
 }
 
 fn read_other(s: &[u8]) -> ReadResult<'_, Head<'_>>
@@ -270,13 +269,14 @@ fn read_module<'a>(source: &[u8], s: &'a [u8], levels: usize) -> ReadResult<'a, 
         (PastFields source.now (length s.now)) result }
 {
     let (named, next) = s.flag()?;
-    if named {
+    let (name, next) = if named {
         let (x, next) = read_quoted(source, next, levels)?;
-        let (n, next) = next.number()?;
-        return Ok((Head::NamedModule(x, n), next));
-    }
+        (Some(x), next)
+    } else {
+        (None, next)
+    };
     let (n, next) = next.number()?;
-    Ok((Head::Module(n), next))
+    Ok((Head::Module(name, n), next))
 }
 
 // The fields of a head, by the span and the tag, where so many levels are left below the node.

@@ -100,8 +100,7 @@ module _ (source : List ℕ) (levels : ℕ) (sp : Span) where
   no_other (head.ImportType x n) k = behind (type_rest inner object' n) λ p. ends (unlike λ sp ns e. cc)
   no_other head.ImportEquals k = ends (unlike λ sp ns e. cc)
   no_other (head.ImportRequire d) k = ends (unlike λ sp ns e. cc)
-  no_other (head.Module n) k = behind (nodes inner n) λ ns. ends (unlike λ sp ns e. cc)
-  no_other (head.NamedModule x n) k = behind (nodes inner n) λ ns. ends (unlike λ sp ns e. cc)
+  no_other (head.Module x n) k = behind (nodes inner n) λ ns. ends (unlike λ sp ns e. cc)
 
 -- the root by its head
 module _ (source u : List ℕ) (levels : ℕ) (x : Head) {sp : Span} {w : List ℕ} {n : Node} {t : List ℕ}

@@ -50,7 +50,7 @@ fn check_rest<'a>(
         Head::String(_) | Head::NamedExport(_) | Head::ImportEquals => Ok((leaf(false, false), s)),
         Head::Name(x) => Ok((leaf(false, is_require(x)), s)),
         Head::ImportRequire(_) => Ok((leaf(true, false), s)),
-        Head::Other(n) | Head::Module(n) => check_holding(source, s, false, n, levels),
+        Head::Other(n) | Head::Module(None, n) => check_holding(source, s, false, n, levels),
         Head::Template(n) => {
             let (uncooked, next) = read_pieces(s, n + 1)?;
             let (t, next) = check_nodes(source, next, n, levels)?;
@@ -80,7 +80,7 @@ fn check_rest<'a>(
             let (t, next) = check_typed(source, s, n, levels)?;
             Ok((holding(true, false, t), next))
         }
-        Head::NamedModule(x, n) => check_holding(source, s, is_augmentation(x.text), n, levels),
+        Head::Module(Some(x), n) => check_holding(source, s, is_augmentation(x.text), n, levels),
     }
 }
 

@@ -3,7 +3,8 @@ use mathlib.Core.Bool.{not-eq-not}
 use lib.Seq.{get_or-take}
 use Rattle.laws.proofs.Prelude.{◌≡◌, refl, sym, ◌∙◌, Bool, true, false, ◌&&◌, ◌||◌, and-eq-true_iff, false≢true, true≢false, List, [], ◌∷◌, ℕ, zero, suc, ◌+◌}
 use Rattle.laws.proofs.Prelude.{◌-◌, ◌≤◌, ◌<◌, add-zero, arith, leb, ltb, length, get_or, take, drop, get_or-drop, leb-true, ltb-true, ltb-false}
-use Rattle.text.{specs.declared.utf8.Encoding.TheVariants.Utf8, proofs.Formed.every_row, proofs.Formed.picked, proofs.WithinRange.within_iff}
+use Rattle.std.proofs.lemmas.Bool.{cond_both}
+use Rattle.text.{specs.declared.utf8.Encoding.TheVariants.Utf8, proofs.Formed.every_row, proofs.WithinRange.within_iff}
 use Rattle.text.specs.Ranges.{Range, ◌to◌, within}
 use Rattle.text.specs.Utf8.{admits, continuation, Row, char, never, length_by, rows, char_length}
 use Rattle.steps.specs.Answers.{Precedes}
@@ -61,8 +62,8 @@ module _ (P : ℕ → Type 0) (none : P 0) (test : List Range → Bool) where
   by_rows s f [] t = none
   by_rows s f (char first last rs ∷ more) t =
       let both = (and-eq-true_iff (test rs) (every_row test more)).0 t in
-      picked P (admits rs s) (λ h. f rs h both.0) (λ h. by_rows s f more both.1)
-  by_rows s f (never rs ∷ more) t = picked P (admits rs s) (λ h. none) (λ h. by_rows s f more t)
+      cond_both (admits rs s) _ _ P (λ h. f rs h both.0) (λ h. by_rows s f more both.1)
+  by_rows s f (never rs ∷ more) t = cond_both (admits rs s) _ _ P (λ h. none) (λ h. by_rows s f more t)
 
 begun : (s : List ℕ) → Begun s (char_length Utf8 s)
 unfolding char_length

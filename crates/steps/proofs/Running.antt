@@ -1,7 +1,7 @@
 -- What the stepping matcher goes by: the preferred match of a row by its first step, and by the places where a run can end.
 use Rattle.std.specs.Prelude.{Option, Some, None, is_some, Ok, Err}
 use Rattle.laws.proofs.Prelude.{◌≡◌, refl, sym, ap, ◌∙◌, Bool, true, false, true≢false, cond, List, [], ◌∷◌, ◌++◌, append-nil, append_assoc, flat_map, ℕ}
-use Rattle.laws.proofs.Prelude.{◌+◌, ◌≤◌, ◌<◌, add-zero, arith, take, drop}
+use Rattle.laws.proofs.Prelude.{◌+◌, ◌≤◌, ◌<◌, add-zero, arith, drop}
 use mathlib.Core.List.{reverse, reverse-cons}
 use Rattle.text.specs.{declared.class.Class.Class, declared.utf8.Encoding.TheVariants.Utf8, Utf8.char_length, Utf8.char_at}
 use Rattle.text.specs.Class.{member, class_at, run_end}
@@ -10,9 +10,8 @@ use Rattle.analysis.specs.declared.Capture.{Capture}
 use Rattle.analysis.specs.Row.{Row, one_at, done, longest, shortest, run_ends, all, first}
 use Rattle.analysis.proofs.Ends.{ends_stop, ends_go_on, ends_begin, by_characters, end_behind}
 use Rattle.analysis.proofs.{Search.first_append, RowSteps.some_there, RowSteps.none_there}
-use Rattle.steps.specs.declared.{run.Reached.Reached, table.Ill.Ill, table.Plain.Plain}
-use Rattle.steps.specs.declared.table.Step.TheVariants.{Done, Pass, Longest, Shortest, Either}
-use Rattle.steps.specs.Table.{row, before, step_of, row_in}
+use Rattle.steps.specs.declared.{run.Reached.Reached, table.Ill.Ill}
+use Rattle.steps.specs.Table.{nothing, step, fork, row, step_of, row_in}
 use Rattle.steps.specs.Answers.{Passes, Precedes, FirstOf}
 use Rattle.steps.proofs.Decoding.{row_in_lem, before_row, between_rows}
 
@@ -37,74 +36,72 @@ moved m e = record { at = e; captured = m.captured }
 pub record Goes (s t : List ℕ) (m : Reached) (u : List ℕ) (n : Reached) : Type 0 where
   pub on : (q : Row) → row_in t ≡ row q → (r : Row) × (row_in u ≡ row r) × (first (all q s m.at m.captured) ≡ first (all r s n.at n.captured))
 
-module _ {s t : List ℕ} {m : Reached} where
-  pub stays : Goes s t m t m
-  stays = record { on = λ q e. (q, e, refl) }
+pub stays : {s t : List ℕ} {m : Reached} → Goes s t m t m
+stays = record { on = λ q e. (q, e, refl) }
 
-  pub onward : {u v : List ℕ} {n o : Reached} → Goes s t m u n → Goes s u n v o → Goes s t m v o
-  onward f g = record {
+module _ {s t u : List ℕ} {m n : Reached} (f : Goes s t m u n) where
+  onward : {v : List ℕ} {o : Reached} → Goes s u n v o → Goes s t m v o
+  onward g = record {
     on = λ q e.
         let (r, i, x) = f.on q e in
         let (p, j, y) = g.on r i in
         (p, j, x ∙ y);
   }
 
-  pub arrives : {u : List ℕ} {n : Reached} {x : Option Capture} → Goes s t m u n → Whole u s n x → Whole t s m x
-  arrives f a = record { is = λ q e. let (r, i, v) = f.on q e in a.is r i ∙ sym v }
+  arrives : {x : Option Capture} → Whole u s n x → Whole t s m x
+  arrives a = record { is = λ q e. let (r, i, v) = f.on q e in a.is r i ∙ sym v }
 
-  -- by the first step
-  pub at_done : step_of t ≡ Ok Done → Whole t s m (Some m.captured)
+  -- by the first step there
+  pub at_done : step_of u ≡ Ok nothing → Whole t s m (Some n.captured)
   unfolding all first
-  at_done e = record { is = λ q i. let same : q ≡ done = cc (row_in_lem t e) in rw same }
+  at_done e = arrives (record { is = λ q i. let same : q ≡ done = cc (row_in_lem u e) in rw same })
 
-  pub at_bad : {y : Ill} {x : Option Capture} → step_of t ≡ Err y → Whole t s m x
-  at_bad e = record { is = λ q i. cc (row_in_lem t e) }
+  pub at_bad : {y : Ill} → step_of u ≡ Err y → Whole t s m None
+  at_bad e = arrives (record { is = λ q i. cc (row_in_lem u e) })
 
-  module _ {p : Plain} {wide : ℕ} (e : step_of t ≡ Ok (Pass p wide)) {x : Option Reached} (f : Passes p t s m x) where
-    pub passed : {n : Reached} → x ≡ Some n → Goes s t m (drop wide t) n
-    passed is = record {
-      on = λ q i.
-          let (r, j, same) = before_row (row_in (drop wide t)) (sym (row_in_lem t e) ∙ i) in
-          (r, j, ap (λ (x : Row). first (all x s m.at m.captured)) same ∙ ap first (f r) ∙ rw is);
-    }
-
-    pub unpassed : x ≡ None → Whole t s m None
-    unfolding first
-    unpassed is = record {
+  module _ {g : Row → Row} {v : List ℕ} (e : step_of u ≡ Ok (step g v)) where
+    pub at_step : {x : Option Capture} → FirstOf g v s n x → Whole t s m x
+    at_step a = arrives (record {
       is = λ q i.
-          let (r, j, same) = before_row (row_in (drop wide t)) (sym (row_in_lem t e) ∙ i) in
-          sym (ap (λ (x : Row). first (all x s m.at m.captured)) same ∙ ap first (f r) ∙ rw is);
-    }
+          let (r, j, same) = before_row (row_in v) (sym (row_in_lem u e) ∙ i) in
+          rw same (a.is r j);
+    })
 
-  at_run : {step : Row → Row} {x : Option Capture} → row_in t ≡ before step (row_in (drop 2 t)) → FirstOf step (drop 2 t) s m x → Whole t s m x
-  at_run e f = record {
-    is = λ q i.
-        let (r, j, same) = before_row (row_in (drop 2 t)) (sym e ∙ i) in
-        rw same (f.is r j);
-  }
+    module _ {x : Option Reached} (h : Passes g s n x) where
+      pub passed : {o : Reached} → x ≡ Some o → Goes s t m v o
+      passed is = onward (record {
+        on = λ q i.
+            let (r, j, same) = before_row (row_in v) (sym (row_in_lem u e) ∙ i) in
+            (r, j, ap (λ (x : Row). first (all x s n.at n.captured)) same ∙ ap first (h r) ∙ rw is);
+      })
 
-  pub at_longest : {c : Class} {x : Option Capture} → step_of t ≡ Ok (Longest c) → FirstOf (longest c) (drop 2 t) s m x → Whole t s m x
-  at_longest e = at_run (row_in_lem t e)
+      pub unpassed : x ≡ None → Whole t s m None
+      unfolding first
+      unpassed is = arrives (record {
+        is = λ q i.
+            let (r, j, same) = before_row (row_in v) (sym (row_in_lem u e) ∙ i) in
+            sym (ap (λ (x : Row). first (all x s n.at n.captured)) same ∙ ap first (h r) ∙ rw is);
+      })
 
-  pub at_shortest : {c : Class} {x : Option Capture} → step_of t ≡ Ok (Shortest c) → FirstOf (shortest c) (drop 2 t) s m x → Whole t s m x
-  at_shortest e = at_run (row_in_lem t e)
-
-  module _ {n : ℕ} (e : step_of t ≡ Ok (Either n)) {x : Option Capture} (f : Whole (take n (drop 2 t)) s m x) where
+  module _ {v w : List ℕ} (e : step_of u ≡ Ok (fork v w)) {x : Option Capture} (h : Whole v s n x) where
     pub at_first : true ≡ is_some x → Whole t s m x
     unfolding all
-    at_first is = record {
+    at_first is = arrives (record {
       is = λ q i.
-          let (a, j, b, h, same) = between_rows (row_in (take n (drop 2 t))) (row_in (drop (2 + n) t)) (sym (row_in_lem t e) ∙ i) in
-          rw same (hit (all a s m.at m.captured) (all b s m.at m.captured) (f.is a j) is);
-    }
+          let (a, j, b, k, same) = between_rows (row_in v) (row_in w) (sym (row_in_lem u e) ∙ i) in
+          rw same (hit (all a s n.at n.captured) (all b s n.at n.captured) (h.is a j) is);
+    })
 
-    pub at_second : false ≡ is_some x → Goes s t m (drop (2 + n) t) m
+    pub at_second : false ≡ is_some x → Goes s t m w n
     unfolding all
-    at_second is = record {
+    at_second is = onward (record {
       on = λ q i.
-          let (a, j, b, h, same) = between_rows (row_in (take n (drop 2 t))) (row_in (drop (2 + n) t)) (sym (row_in_lem t e) ∙ i) in
-          (b, h, ap (λ (x : Row). first (all x s m.at m.captured)) same ∙ miss (all a s m.at m.captured) (all b s m.at m.captured) (f.is a j) is);
-    }
+          let (a, j, b, k, same) = between_rows (row_in v) (row_in w) (sym (row_in_lem u e) ∙ i) in
+          (b, k, ap (λ (x : Row). first (all x s n.at n.captured)) same ∙ miss (all a s n.at n.captured) (all b s n.at n.captured) (h.is a j) is);
+    })
+
+-- what `match_from` goes by
+pub ruleset on_steps = (stays, at_done, passed, at_first, at_second)
 
 -- a run, the shorter ones first, and the steps behind it: from one of its ends to the next
 pub record Shorter (c : Class) (t s : List ℕ) (m : Reached) (e : ℕ) : Type 0 where

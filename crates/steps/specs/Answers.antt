@@ -8,29 +8,8 @@ use Rattle.analysis.specs.Prefers.{Finds}
 use Rattle.steps.specs.declared.run.Reached.{Reached}
 use Rattle.steps.specs.declared.table.Ill.{Ill}
 use Rattle.steps.specs.declared.table.Ill.TheVariants.{TooLong, UnknownStep, UnknownClass, UnknownMarks, CutOff}
-use Rattle.steps.specs.declared.table.Plain.{Plain}
-use Rattle.steps.specs.declared.table.Plain.TheVariants.{Start, Word, One, From, To}
-use Rattle.steps.specs.declared.table.Step.{Step}
-use Rattle.steps.specs.declared.table.Step.TheVariants.{Done, Pass, Longest, Shortest, Either}
 use Rattle.steps.specs.Written.{written}
-use Rattle.steps.specs.Table.{Decoded, row, ill, plain, row_in, decode}
-
--- the letters of a word lie within n numbers
-abbrev pub Fits : Plain → ℕ → Type 0
-Fits Start n = Unit {0}
-Fits (Word k) n = 2 + k ≤ n
-Fits (One c) n = Unit {0}
-Fits (From quoted) n = Unit {0}
-Fits To n = Unit {0}
-
--- the step, if there is one, lies within n numbers, and has some
-abbrev pub StepWithin : Result Step Ill → ℕ → Type 0
-StepWithin (Ok Done) n = Unit {0}
-StepWithin (Ok (Pass p wide)) n = Fits p n × (0 < wide) × (wide ≤ n)
-StepWithin (Ok (Longest c)) n = 2 ≤ n
-StepWithin (Ok (Shortest c)) n = 2 ≤ n
-StepWithin (Ok (Either k)) n = 2 + k ≤ n
-StepWithin (Err x) n = Unit {0}
+use Rattle.steps.specs.Table.{Decoded, row, ill, row_in, decode}
 
 -- whether numbers stand for a row
 abbrev pub verdict_of : Decoded → Result (Unit {0}) Ill
@@ -42,9 +21,9 @@ abbrev pub on_passed : Option Reached → (ℕ → Capture → List Capture) →
 on_passed (Some m) f = f m.at m.captured
 on_passed None f = []
 
--- whatever row is behind it, a plain step matches as it is passed
-abbrev pub Passes : Plain → List ℕ → List ℕ → Reached → Option Reached → Type 0
-Passes p t s m r = (q : Row) → all (plain p t q) s m.at m.captured ≡ on_passed r (λ e l. all q s e l)
+-- whatever row is behind it, a step matches as it is passed
+abbrev pub Passes : (Row → Row) → List ℕ → Reached → Option Reached → Type 0
+Passes f s m r = (q : Row) → all (f q) s m.at m.captured ≡ on_passed r (λ e l. all q s e l)
 
 -- the place that was reached, if any, is at most n
 abbrev pub PassedBy : Option Reached → ℕ → Type 0

@@ -3,3 +3,4 @@ pub mod Table
 pub mod Written
 pub mod Answers
 pub mod Patterns
+pub mod code

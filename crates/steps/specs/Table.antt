@@ -1,14 +1,10 @@
 -- A pattern as a table of numbers: what row it stands for, or what is wrong with it.
-use Rattle.std.specs.Prelude.{cond, List, ℕ, zero, suc, ◌+◌, ◌-◌, eqb, ltb, length, get_or, take, drop, Result, Ok, Err}
+use Rattle.std.specs.Prelude.{cond, List, ℕ, zero, suc, eqb, ltb, length, get_or, take, drop, Result, Ok, Err}
 use Rattle.text.specs.declared.class.Class.{Class}
 use Rattle.text.specs.declared.class.Class.TheVariants.{White, NotWhite, WhiteOrStar, NotLf, Quote, NotQuote, SourceMark, Alphabetic, NameRest}
 use Rattle.analysis.specs.Row.{Row, done, start, word, one, longest, shortest, from, to, either}
 use Rattle.steps.specs.declared.table.Ill.{Ill}
 use Rattle.steps.specs.declared.table.Ill.TheVariants.{TooLong, UnknownStep, UnknownClass, UnknownMarks, CutOff}
-use Rattle.steps.specs.declared.table.Plain.{Plain}
-use Rattle.steps.specs.declared.table.Plain.TheVariants.{Start, Word, One, From, To}
-use Rattle.steps.specs.declared.table.Step.{Step}
-use Rattle.steps.specs.declared.table.Step.TheVariants.{Done, Pass, Longest, Shortest, Either}
 use Rattle.steps.specs.Codes.{START, TO, WORD, ONE, LONGEST, FROM, EITHER, WHITE, not_white, white_or_star, not_lf, QUOTE, not_quote}
 use Rattle.steps.specs.Codes.{source_mark, ALPHABETIC, name_rest, MARKED}
 
@@ -25,30 +21,36 @@ class_of n =
     (cond (eqb n ALPHABETIC) (Ok Alphabetic)
     (cond (eqb n name_rest) (Ok NameRest) (Err UnknownClass)))))))))
 
--- a step with a class, or what is wrong with it
-abbrev pub at_class : (Class → Step) → Result Class Ill → Result Step Ill
-at_class step (Ok c) = Ok (step c)
-at_class step (Err x) = Err x
+-- what a row goes on with: nothing; a step before the row that the numbers left stand for; or two alternatives
+pub data Next : Type 0 where
+  nothing : Next
+  step : (Row → Row) → List ℕ → Next
+  fork : List ℕ → List ℕ → Next
 
--- the step of a code that has an argument, n, with so many numbers behind it
-unfoldable pub argued_by : ℕ → ℕ → ℕ → Result Step Ill
+-- a step with a class, or what is wrong with it
+abbrev pub at_class : (Class → Row → Row) → List ℕ → Result Class Ill → Result Next Ill
+at_class f left (Ok c) = Ok (step (f c) left)
+at_class f left (Err x) = Err x
+
+-- the step of a code that has an argument, n, with these numbers behind it
+unfoldable pub argued_by : ℕ → ℕ → List ℕ → Result Next Ill
 argued_by code n left =
-    cond (eqb code WORD) (cond (ltb left n) (Err CutOff) (Ok (Pass (Word n) (2 + n))))
-    (cond (eqb code EITHER) (cond (ltb left n) (Err CutOff) (Ok (Either n)))
-    (cond (eqb code FROM) (cond (ltb MARKED n) (Err UnknownMarks) (Ok (Pass (From (eqb n MARKED)) 2)))
-    (cond (eqb code ONE) (at_class (λ c. Pass (One c) 2) (class_of n))
-    (cond (eqb code LONGEST) (at_class Longest (class_of n)) (at_class Shortest (class_of n))))))
+    cond (eqb code WORD) (cond (ltb (length left) n) (Err CutOff) (Ok (step (word (take n left)) (drop n left))))
+    (cond (eqb code EITHER) (cond (ltb (length left) n) (Err CutOff) (Ok (fork (take n left) (drop n left))))
+    (cond (eqb code FROM) (cond (ltb MARKED n) (Err UnknownMarks) (Ok (step (from (eqb n MARKED)) left)))
+    (cond (eqb code ONE) (at_class one left (class_of n))
+    (cond (eqb code LONGEST) (at_class longest left (class_of n)) (at_class shortest left (class_of n))))))
 
 -- the step that the numbers begin with
-unfoldable pub step_of : List ℕ → Result Step Ill
+unfoldable pub step_of : List ℕ → Result Next Ill
 step_of t =
-    cond (eqb (length t) 0) (Ok Done)
-    (cond (eqb (get_or t 0 0) START) (Ok (Pass Start 1))
-    (cond (eqb (get_or t 0 0) TO) (Ok (Pass To 1))
+    cond (eqb (length t) 0) (Ok nothing)
+    (cond (eqb (get_or t 0 0) START) (Ok (step start (drop 1 t)))
+    (cond (eqb (get_or t 0 0) TO) (Ok (step to (drop 1 t)))
     (cond (ltb (get_or t 0 0) WORD) (Err UnknownStep)
     (cond (ltb EITHER (get_or t 0 0)) (Err UnknownStep)
     (cond (eqb (length t) 1) (Err CutOff)
-    (argued_by (get_or t 0 0) (get_or t 1 0) (length t - 2)))))))
+    (argued_by (get_or t 0 0) (get_or t 1 0) (drop 2 t)))))))
 
 -- the row, or what is wrong
 pub data Decoded : Type 0 where
@@ -65,27 +67,17 @@ abbrev pub between : Decoded → Decoded → Decoded
 between (row a) d = before (either a) d
 between (ill x) d = ill x
 
--- a plain step, the first of the numbers
-abbrev pub plain : Plain → List ℕ → Row → Row
-plain Start t = start
-plain (Word n) t = word (take n (drop 2 t))
-plain (One c) t = one c
-plain (From quoted) t = from quoted
-plain To t = to
-
--- the numbers by their first step, d being what those behind it stand for
-abbrev pub stepwise : Result Step Ill → List ℕ → (List ℕ → Decoded) → Decoded
-stepwise (Ok Done) t d = row done
-stepwise (Ok (Pass p wide)) t d = before (plain p t) (d (drop wide t))
-stepwise (Ok (Longest c)) t d = before (longest c) (d (drop 2 t))
-stepwise (Ok (Shortest c)) t d = before (shortest c) (d (drop 2 t))
-stepwise (Ok (Either n)) t d = between (d (take n (drop 2 t))) (d (drop (2 + n) t))
-stepwise (Err x) t d = ill x
+-- a row by its first step, d being what numbers stand for
+abbrev pub stepwise : Result Next Ill → (List ℕ → Decoded) → Decoded
+stepwise (Ok nothing) d = row done
+stepwise (Ok (step f t)) d = before f (d t)
+stepwise (Ok (fork t u)) d = between (d t) (d u)
+stepwise (Err x) d = ill x
 
 -- at most n steps deep
 unfoldable pub row_by : ℕ → List ℕ → Decoded
 row_by zero t = ill CutOff
-row_by (suc n) t = stepwise (step_of t) t (λ u. row_by n u)
+row_by (suc n) t = stepwise (step_of t) (λ u. row_by n u)
 
 -- what numbers stand for: no row is deeper than it has numbers (proofs/Decoding, law `row_in`)
 abbrev pub row_in : List ℕ → Decoded

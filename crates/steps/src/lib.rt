@@ -44,11 +44,7 @@ pub enum Pattern {
 fn find_row(table: &[u8], body: &[u8]) -> Option<Capture>
     ensures { FindsRow table.now body.now result }
 {
-    let captured = Capture {
-        quoted: false,
-        from: 0,
-        to: 0,
-    };
+    let captured = Capture::default();
     (0..=body.len()).find_map(|at| match_from(table, body, Reached { at, captured }))
 }
 

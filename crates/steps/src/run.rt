@@ -2,7 +2,8 @@
 ghost use Rattle.std.specs.Prelude.{◌≤◌, ◌<◌, length};
 ghost use Rattle.laws.specs.code.Told.{Bounded};
 ghost use Rattle.analysis.specs.Row.{longest, shortest};
-ghost use Rattle.steps.specs.Answers.{Fits, Passes, PassedBy, Precedes, FirstOf};
+ghost use Rattle.steps.specs.Answers.{Passes, PassedBy, Precedes, FirstOf};
+ghost use Rattle.steps.specs.code.Views.{plain_as};
 
 use super::table::{Plain, Step, step_of};
 use analysis::Capture;
@@ -17,19 +18,18 @@ pub struct Reached {
     pub captured: Capture,
 }
 
-// Passes a plain step, with which the numbers begin, and answers how far the match has come behind it, if it is passed.
+// Passes a plain step, and answers how far the match has come behind it, if it is passed.
 #[tactic(auto, unfolding(analysis::specs::Row::all))]
-fn pass(plain: Plain, steps: &[u8], body: &[u8], from: Reached) -> Option<Reached>
-    requires { (from.at ≤ length body.now) × (Fits plain (length steps.now)) }
-    ensures { Bounded (Passes plain steps.now body.now from result)
-        (PassedBy result (length body.now)) }
+fn pass(plain: Plain, body: &[u8], from: Reached) -> Option<Reached>
+    requires { from.at ≤ length body.now }
+    ensures { Bounded (Passes (plain_as plain.entry) body.now from result) (PassedBy result (length body.now)) }
 {
     let Reached { at, captured } = from;
     match plain {
         Plain::Start if at == 0 => Some(from),
         Plain::Start => None,
-        Plain::Word(n) => Some(Reached {
-            at: match_word(body, at, &steps[2..2 + n])?,
+        Plain::Word(word) => Some(Reached {
+            at: match_word(body, at, word)?,
             captured,
         }),
         Plain::One(class) => Some(Reached {
@@ -95,6 +95,7 @@ fn match_shortest(steps: &[u8], body: &[u8], from: Reached, class: Class) -> Opt
 }
 
 // The preferred match, from how far it has come on, of the row that the numbers stand for.
+#[tactic(auto, using(crate::proofs::Running::on_steps))]
 #[cycle(run)]
 pub fn match_from(steps: &[u8], body: &[u8], from: Reached) -> Option<Capture>
     requires { from.at ≤ length body.now }
@@ -108,14 +109,13 @@ pub fn match_from(steps: &[u8], body: &[u8], from: Reached) -> Option<Capture>
         };
         match step {
             Step::Done => return Some(here.captured),
-            Step::Pass(plain, wide) => {
-                here = pass(plain, rest, body, here)?;
-                rest = &rest[wide..];
+            Step::Pass(plain, next) => {
+                here = pass(plain, body, here)?;
+                rest = next;
             }
-            Step::Longest(class) => return match_longest(&rest[2..], body, here, class),
-            Step::Shortest(class) => return match_shortest(&rest[2..], body, here, class),
-            Step::Either(n) => {
-                let (first, second) = rest[2..].split_at(n);
+            Step::Longest(class, next) => return match_longest(next, body, here, class),
+            Step::Shortest(class, next) => return match_shortest(next, body, here, class),
+            Step::Either(first, second) => {
                 let found = match_from(first, body, here);
                 if found.is_some() {
                     return found;

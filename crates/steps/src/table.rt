@@ -2,7 +2,8 @@
 ghost use Rattle.std.specs.Prelude.{◌≡◌, ◌+◌, length};
 ghost use Rattle.laws.specs.code.Told.{Bounded};
 ghost use Rattle.steps.specs.Table.{class_of, argued_by, step_of, row_in};
-ghost use Rattle.steps.specs.Answers.{StepWithin, verdict_of};
+ghost use Rattle.steps.specs.Answers.{verdict_of};
+ghost use Rattle.steps.specs.code.Views.{next_as, StepWithin};
 
 use super::codes::{
     ALPHABETIC, EITHER, FROM, LONGEST, MARKED, NAME_REST, NOT_LF, NOT_QUOTE, NOT_WHITE, ONE, QUOTE,
@@ -27,22 +28,22 @@ pub enum Ill {
 
 // A step that is passed in one way only, or not at all.
 #[derive(Clone, Copy)]
-pub enum Plain {
+pub enum Plain<'a> {
     Start,
-    Word(usize),
+    Word(&'a [u8]),
     One(Class),
     From(bool),
     To,
 }
 
-// What a row goes on with: a plain step and how many numbers it has; a run; how many numbers the first alternative has.
+// What a row goes on with, and the numbers that are left behind it; or the two alternatives.
 #[derive(Clone, Copy)]
-pub enum Step {
+pub enum Step<'a> {
     Done,
-    Pass(Plain, usize),
-    Longest(Class),
-    Shortest(Class),
-    Either(usize),
+    Pass(Plain<'a>, &'a [u8]),
+    Longest(Class, &'a [u8]),
+    Shortest(Class, &'a [u8]),
+    Either(&'a [u8], &'a [u8]),
 }
 
 // The class of a number.
@@ -64,40 +65,45 @@ fn class_of(n: u8) -> Result<Class, Ill>
     }
 }
 
-// The step of a code that has an argument, `n`, with so many numbers behind it.
+// The step of a code that has an argument, `n`, and the numbers that stand behind it.
 #[tactic(auto, unfolding(crate::specs::Table::argued_by))]
-fn argued(code: u8, n: u8, left: usize) -> Result<Step, Ill>
-    ensures { Bounded (result ≡ argued_by code n left) (StepWithin result (2 + left)) }
+fn argued(code: u8, n: u8, left: &[u8]) -> Result<Step<'_>, Ill>
+    ensures { Bounded (next_as result ≡ argued_by code n left.now) (StepWithin (next_as result) (2 + length left.now)) }
 {
-    let count = usize::from(n);
     match code {
-        WORD | EITHER if left < count => Err(Ill::CutOff),
-        WORD => Ok(Step::Pass(Plain::Word(count), 2 + count)),
-        EITHER => Ok(Step::Either(count)),
+        WORD => {
+            let (word, next) = left.split_at_checked(usize::from(n)).ok_or(Ill::CutOff)?;
+            Ok(Step::Pass(Plain::Word(word), next))
+        }
+        EITHER => {
+            let (first, second) = left.split_at_checked(usize::from(n)).ok_or(Ill::CutOff)?;
+            Ok(Step::Either(first, second))
+        }
         FROM if MARKED < n => Err(Ill::UnknownMarks),
-        FROM => Ok(Step::Pass(Plain::From(n == MARKED), 2)),
-        ONE => Ok(Step::Pass(Plain::One(class_of(n)?), 2)),
-        LONGEST => Ok(Step::Longest(class_of(n)?)),
-        _ => Ok(Step::Shortest(class_of(n)?)),
+        FROM => Ok(Step::Pass(Plain::From(n == MARKED), left)),
+        ONE => Ok(Step::Pass(Plain::One(class_of(n)?), left)),
+        LONGEST => Ok(Step::Longest(class_of(n)?, left)),
+        _ => Ok(Step::Shortest(class_of(n)?, left)),
     }
 }
 
 // The step that the numbers begin with.
 #[tactic(auto, unfolding(crate::specs::Table::step_of))]
-pub fn step_of(steps: &[u8]) -> Result<Step, Ill>
-    ensures { Bounded (result ≡ step_of steps.now) (StepWithin result (length steps.now)) }
+pub fn step_of(steps: &[u8]) -> Result<Step<'_>, Ill>
+    ensures { Bounded (next_as result ≡ step_of steps.now) (StepWithin (next_as result) (length steps.now)) }
 {
     match steps {
         [] => Ok(Step::Done),
-        [START, ..] => Ok(Step::Pass(Plain::Start, 1)),
-        [TO, ..] => Ok(Step::Pass(Plain::To, 1)),
+        [START, next @ ..] => Ok(Step::Pass(Plain::Start, next)),
+        [TO, next @ ..] => Ok(Step::Pass(Plain::To, next)),
         [WORD..=EITHER] => Err(Ill::CutOff),
-        [code @ WORD..=EITHER, n, left @ ..] => argued(*code, *n, left.len()),
+        [code @ WORD..=EITHER, n, left @ ..] => argued(*code, *n, left),
         _ => Err(Ill::UnknownStep),
     }
 }
 
 // Do the numbers stand for a row? Each is looked at once.
+#[tactic(auto, using(crate::proofs::Decoding::judged))]
 pub fn check(steps: &[u8]) -> Result<(), Ill>
     ensures { result ≡ verdict_of (row_in steps.now) }
 {
@@ -105,10 +111,8 @@ pub fn check(steps: &[u8]) -> Result<(), Ill>
     loop {
         match step_of(rest)? {
             Step::Done => return Ok(()),
-            Step::Pass(_, wide) => rest = &rest[wide..],
-            Step::Longest(_) | Step::Shortest(_) => rest = &rest[2..],
-            Step::Either(n) => {
-                let (first, second) = rest[2..].split_at(n);
+            Step::Pass(_, next) | Step::Longest(_, next) | Step::Shortest(_, next) => rest = next,
+            Step::Either(first, second) => {
                 check(first)?;
                 rest = second;
             }

@@ -1,6 +1,6 @@
 -- A run of ASCII is one character after the other.
 use Rattle.laws.proofs.Prelude.{◌≡◌, refl, sym, true, false, ap, ◌∙◌, Bool, cond, List, ℕ, zero, suc, ◌+◌, ◌≤◌, ◌<◌, arith, add-zero, length, get_or, drop}
-use Rattle.laws.proofs.Prelude.{drop-cons, get_or-drop, le-leb}
+use Rattle.laws.proofs.Prelude.{drop-cons, le-leb}
 use mir.Val.{bool_byte}
 use Rattle.text.specs.declared.utf8.Encoding.{Encoding, TheVariants.Utf8}
 use Rattle.text.specs.Utf8.{admits, length_by, char_length, code_by, char_at, formed}
@@ -24,10 +24,10 @@ module _ (e : Encoding) (s : List ℕ) where
       ∙ ap (λ (m : ℕ). formed e 0 (drop m s)) more
 
 -- a byte of ASCII passes where its number does
-pub ascii_if : (test : ℕ → Bool) (s : List ℕ) (at : ℕ) → at < length s → {b : ℕ} → b ≡ get_or s at 0 → b < 128 → {r : Bool} → r ≡ test b
-    → bool_byte r ≡ length_if test (drop at s)
+pub ascii_if : (test : ℕ → Bool) (s : List ℕ) → 0 < length s → get_or s 0 0 < 128 → {r : Bool} → r ≡ test (get_or s 0 0)
+    → bool_byte r ≡ length_if test s
 unfolding char_at code_by
-ascii_if test s at l g h {r} e = rw (ascii_one Utf8 s at l (rw g at h), get_or-drop, add-zero, ← g, ← e) (go r)
+ascii_if test s l h {r} e = rw (ascii_one Utf8 s 0 l h, ← e) (go r)
   where
     go : (r : Bool) → bool_byte r ≡ cond r 1 0
     go true = refl

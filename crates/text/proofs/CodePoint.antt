@@ -1,18 +1,18 @@
 -- The code point of the first bytes of a text: that of the encoding of p is p.
 use Rattle.laws.proofs.Prelude.{◌≡◌, refl, List, ◌++◌, ℕ, ◌+◌, ◌*◌, ◌/◌, ◌%◌, ◌≤◌, ◌<◌, arith, ltb, length, ltb-true}
 use Rattle.laws.proofs.Prelude.{ltb-false}
+use Rattle.std.proofs.lemmas.Bool.{cond_both}
 use Rattle.text.specs.Utf8.{code_by}
 use Rattle.text.specs.Encode.{encode1, encode2, encode3, encode4, encode}
-use Rattle.text.proofs.Formed.{picked}
 
 -- what holds of the bytes of each length holds of the encoding
 pub by_length : (P : List ℕ → Type 0) (p : ℕ) → (p < 0x80 → P (encode1 p)) → (0x80 ≤ p → p < 0x800 → P (encode2 p))
     → (0x800 ≤ p → p < 0x10000 → P (encode3 p)) → (0x10000 ≤ p → P (encode4 p)) → P (encode p)
 unfolding encode
 by_length P p f g h k =
-    picked P (ltb p 0x80) (λ t. f (ltb-true p 0x80 t)) λ a.
-    picked P (ltb p 0x800) (λ t. g (ltb-false p 0x80 a) (ltb-true p 0x800 t)) λ b.
-    picked P (ltb p 0x10000) (λ t. h (ltb-false p 0x800 b) (ltb-true p 0x10000 t)) λ c. k (ltb-false p 0x10000 c)
+    cond_both (ltb p 0x80) _ _ P (λ t. f (ltb-true p 0x80 t)) λ a.
+    cond_both (ltb p 0x800) _ _ P (λ t. g (ltb-false p 0x80 a) (ltb-true p 0x800 t)) λ b.
+    cond_both (ltb p 0x10000) _ _ P (λ t. h (ltb-false p 0x800 b) (ltb-true p 0x10000 t)) λ c. k (ltb-false p 0x10000 c)
 
 pub nonempty : (p : ℕ) → 0 < length (encode p)
 nonempty p = by_length (λ bs. 0 < length bs) p (λ l. omega arith) (λ l h. omega arith) (λ l h. omega arith) (λ l. omega arith)

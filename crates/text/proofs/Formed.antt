@@ -2,6 +2,7 @@
 use Rattle.laws.proofs.Prelude.{◌≡◌, refl, ap, sym, ◌∙◌, Bool, true, false, cond, ◌&&◌, and-eq-true_iff, List, [], ◌∷◌, ℕ, zero, suc, ◌+◌, ◌≤◌, ◌<◌}
 use Rattle.laws.proofs.Prelude.{zero-le, suc-le-suc, length, drop, drop_of_length-le, drop-cons, drop-drop}
 use native.Mathlib.Nat.{add-suc, suc-add}
+use Rattle.std.proofs.lemmas.Bool.{cond_both}
 use Rattle.text.specs.{declared.utf8.Encoding.Encoding, Ranges.Range, Ranges.within}
 use Rattle.text.specs.Utf8.{admits, Row, char, never, length_by, rows, char_length, formed}
 
@@ -45,17 +46,12 @@ every_row f [] = true
 every_row f (char first last rs ∷ more) = f rs && every_row f more
 every_row f (never rs ∷ more) = every_row f more
 
--- what holds of both answers, each where the test has it, holds of the answer
-pub picked : {A : Type 0} (P : A → Type 0) (b : Bool) {x y : A} → (b ≡ true → P x) → (b ≡ false → P y) → P (cond b x y)
-picked P true f g = f refl
-picked P false f g = g refl
-
 -- a row that admits the text has no more ranges than the text has bytes, so a character is all in the text
 rows_fit : (table : List Row) (s : List ℕ) → length_by table s ≤ length s
 unfolding length_by
 rows_fit [] s = zero-le
-rows_fit (char first last rs ∷ more) s = picked (λ n. n ≤ length s) (admits rs s) (admitted rs s) (λ h. rows_fit more s)
-rows_fit (never rs ∷ more) s = picked (λ n. n ≤ length s) (admits rs s) (λ h. zero-le) (λ h. rows_fit more s)
+rows_fit (char first last rs ∷ more) s = cond_both (admits rs s) _ _ (λ n. n ≤ length s) (admitted rs s) (λ h. rows_fit more s)
+rows_fit (never rs ∷ more) s = cond_both (admits rs s) _ _ (λ n. n ≤ length s) (λ h. zero-le) (λ h. rows_fit more s)
 
 pub fits : (e : Encoding) (s : List ℕ) → char_length e s ≤ length s
 unfolding char_length

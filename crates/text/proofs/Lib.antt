@@ -1,4 +1,5 @@
 pub mod Ascii
+pub mod AsciiRanges
 pub mod Boundary
 pub mod Bounds
 pub mod ByRows

@@ -5,13 +5,14 @@ use Rattle.laws.proofs.Prelude.{lt-ltb, le-ltb}
 use mathlib.Core.Bool.{and-false, not-eq-not}
 use lib.{ListN.take-append-drop, Seq.take_at, Seq.drop_at}
 use Rattle.laws.specs.Codec.{All}
+use Rattle.std.proofs.lemmas.Bool.{cond_both}
 use Rattle.text.specs.declared.utf8.Encoding.{Encoding, TheVariants.Utf8, TheVariants.Wtf8}
 use Rattle.text.specs.Ranges.{Range, ◌to◌, within, in_ranges}
 use Rattle.text.specs.Utf8.{admits, Row, char, never, lead_surrogate, trail_surrogate, pair, rows, besides, length_by, char_length, code_by, char_at}
 use Rattle.text.specs.Encode.{encode, code_points, Lead, Trail, Paired, Exact, RowExact}
 use Rattle.text.proofs.{CodePoint.by_length, CodePoint.round, RangesAdmit.admits_append}
 use Rattle.text.proofs.Exact.{exact, leads, trails}
-use Rattle.text.proofs.Formed.{admitted, every_row, picked}
+use Rattle.text.proofs.Formed.{admitted, every_row}
 use Rattle.text.proofs.WithinRange.{within_iff, merged, swapped}
 
 -- the code points of a table
@@ -101,10 +102,10 @@ stands : (table : List Row) → All RowExact table → (s : List ℕ) → Stands
 unfolding length_by in_ranges
 stands [] x s = λ z. absurd (z refl)
 stands (char first last rs ∷ more) x s =
-    picked (Stands (char first last rs ∷ more) s) (admits rs s)
+    cond_both (admits rs s) _ _ (Stands (char first last rs ∷ more) s)
     (λ h z. let (p, l, u, n, e) = text_only x.0 s h in (p, rw ((within_iff first last p).1 (l, u)), n, e))
     (λ h z. let (p, i, n, e) = stands more x.1 s z in (p, rw (i, or-true), n, e))
-stands (never rs ∷ more) x s = picked (Stands more s) (admits rs s) (λ h z. absurd (z refl)) (λ h. stands more x.1 s)
+stands (never rs ∷ more) x s = cond_both (admits rs s) _ _ (Stands more s) (λ h z. absurd (z refl)) (λ h. stands more x.1 s)
 
 -- where the reader answers a length, the text begins with the character that it answers
 pub reader_sound : (e : Encoding) (s : List ℕ) → (char_length e s ≡ 0 → ⊥) → (p : ℕ) × Character e s p
@@ -140,7 +141,7 @@ unfolding length_by in_ranges
 some_length [] k x p t f i = absurd (false≢true i)
 some_length (char first last rs ∷ more) k x p t f i =
     let (some, k) = (and-eq-true_iff (is_some rs) (every_row is_some more)).0 k in
-    picked (λ n. n ≡ 0 → ⊥) (admits rs (encode p ++ t)) (λ h z. omega (arith, ltb-true 0 (length rs) some)) λ h.
+    cond_both (admits rs (encode p ++ t)) _ _ (λ n. n ≡ 0 → ⊥) (λ h z. omega (arith, ltb-true 0 (length rs) some)) λ h.
     some_length more k x.1 p t f
     (otherwise (within (first to last) p) (in_ranges (spans more) p) i λ w.
     let (l, u) = (within_iff first last p).0 w in false≢true (sym h ∙ text_all x.0 p l u t))

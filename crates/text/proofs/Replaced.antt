@@ -1,7 +1,8 @@
 -- The surrogates of a text replaced by U+FFFD: what is left to be written and to be counted from one place to the next; the lossy text is as
 -- long as the text, and is the text itself where there is no surrogate.
 use Rattle.laws.proofs.Prelude.{◌≡◌, refl, ap, ◌∙◌, Bool, true, false, List, [], ◌∷◌, ℕ, zero, suc, ◌+◌, ◌≤◌, ◌<◌, arith, add-one, length, get_or, drop}
-use Rattle.laws.proofs.Prelude.{drop_of_length-le, drop-cons, drop-drop, eqb-true}
+use Rattle.laws.proofs.Prelude.{false≢true, eqb, drop_of_length-le, drop-cons, drop-drop, eqb-true}
+use lib.Dec.{eqb-suc-zero}
 use Rattle.text.specs.Utf8.{admits, surrogate}
 use Rattle.text.specs.Lossy.{marking, counting, replacing, surrogates, lossy, replaced, exact}
 use Rattle.text.proofs.Formed.{admitted}
@@ -48,6 +49,23 @@ module _ (s : List ℕ) (i : ℕ) (l : i < length s) where
     pub copied_count : replaced (drop i s) ≡ replaced (drop (i + 1) s)
     unfolding surrogates
     copied_count = rw (add-one, drop-cons s i 0 l) (rw (rw (drop-cons s i 0 l) at e))
+
+-- a text is exact where no surrogate stands at any place, and is not where one stands
+pub nowhere : (s : List ℕ) → ((i : ℕ) → i < length s → admits surrogate (drop i s) ≡ false) → exact s ≡ true
+unfolding surrogates
+nowhere [] none = refl
+nowhere (x ∷ s) none = rw (none 0 (omega arith)) (nowhere s (λ i l. none (suc i) (omega arith)))
+
+pub somewhere : (s : List ℕ) (i : ℕ) → admits surrogate (drop i s) ≡ true → exact s ≡ false
+unfolding admits surrogates
+somewhere [] zero e = absurd (false≢true e)
+somewhere [] (suc i) e = absurd (false≢true e)
+somewhere (x ∷ s) zero e = rw e (eqb-suc-zero _)
+somewhere (x ∷ s) (suc i) e = go (admits surrogate (x ∷ s)) (somewhere s i e)
+  where
+    go : (b : Bool) → exact s ≡ false → eqb (counting b (λ n. surrogates n s)) 0 ≡ false
+    go true h = eqb-suc-zero _
+    go false h = h
 
 -- the lossy text is as long as the text
 length_replacing : (n : ℕ) (s : List ℕ) → n ≤ length s → n + length (replacing n s) ≡ length s

@@ -1,6 +1,6 @@
 -- Bytes that pass a test: counted, and one after the other.
 use Rattle.laws.proofs.Prelude.{◌≡◌, refl, sym, ap, ◌∙◌, Bool, true, false, cond, List, [], ◌∷◌, ℕ, zero, suc, ◌+◌, ◌≤◌, ◌<◌, arith, length, get_or, take, drop}
-use Rattle.laws.proofs.Prelude.{length-drop, length-take, get_or-drop, le_of_suc-le-suc, not-suc-le-zero}
+use Rattle.laws.proofs.Prelude.{length-take, get_or-drop, le_of_suc-le-suc, not-suc-le-zero}
 use lib.Seq.{get_or-take}
 use Rattle.std.specs.Prelude.{count_by}
 use Rattle.std.proofs.lemmas.List.Sums.{sum_by-cons, count_by-le-length}
@@ -19,9 +19,13 @@ all_counted p (x ∷ s) e = go (p x) refl (all_counted p s)
     go true h f zero l = h
     go true h f (suc k) l = f (omega (arith, first h)) k (le_of_suc-le-suc l)
 
--- of a block within a text
-pub block_counted : (p : ℕ → Bool) (s : List ℕ) (at n : ℕ) → at + n ≤ length s → count_by p (take n (drop at s)) ≡ n
+-- of a block that a text begins with
+pub block_counted : (p : ℕ → Bool) (s : List ℕ) (n : ℕ) → n ≤ length s → count_by p (take n s) ≡ n → (k : ℕ) → k < n → p (get_or s k 0) ≡ true
+block_counted p s n l e k h =
+    let w : length (take n s) ≡ n = omega (arith, length-take n s) in
+    rw (get_or-take n s k 0 h) at (all_counted p (take n s) (e ∙ sym w) k (rw w h))
+
+-- those of what is left are those from the place on
+pub from_place : (p : ℕ → Bool) (s : List ℕ) (at n : ℕ) → ((k : ℕ) → k < n → p (get_or (drop at s) k 0) ≡ true)
     → (k : ℕ) → k < n → p (get_or s (at + k) 0) ≡ true
-block_counted p s at n l e k h =
-    let w : length (take n (drop at s)) ≡ n = omega (arith, length-take n (drop at s), length-drop at s) in
-    rw (get_or-take n (drop at s) k 0 h, get_or-drop) at (all_counted p (take n (drop at s)) (e ∙ sym w) k (rw w h))
+from_place p s at n f k h = rw get_or-drop at (f k h)

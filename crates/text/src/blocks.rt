@@ -1,5 +1,5 @@
 // Bytes by a test, a block of them at a time.
-ghost use Rattle.std.specs.Prelude.{◌≡◌, true, ◌+◌, ◌≤◌, ◌<◌, length, drop, take};
+ghost use Rattle.std.specs.Prelude.{◌≡◌, true, ◌≤◌, ◌<◌, length};
 ghost use Rattle.text.specs.code.Places.{Counts, AllPass, Passed, Skips};
 
 // How many bytes of the block pass. The counter has one byte, so that the loop becomes vector code: `filter` and `count` take 13 times as long.
@@ -17,13 +17,13 @@ pub fn count_in<F: Fn(u8) -> bool>(block: &[u8], test: F) -> u8
     n
 }
 
-// Do N bytes that pass stand at `at`?
-pub fn all_in_block<const N: usize, F: Fn(u8) -> bool>(s: &[u8], at: usize, test: F) -> bool
+// Does the text begin with N bytes that pass?
+pub fn all_in_block<const N: usize, F: Fn(u8) -> bool>(s: &[u8], test: F) -> bool
     requires callable { F.IsAlwaysCallable test }
-    requires place { (at ≤ length s.now) × (N < 256) }
-    ensures { result ≡ true → (at + N ≤ length s.now) × AllPass (F.post test) s.now at N }
+    requires short { N < 256 }
+    ensures { result ≡ true → (N ≤ length s.now) × AllPass (F.post test) s.now N }
 {
-    N <= s.len() - at && count_in(&s[at..at + N], test) == N as u8
+    N <= s.len() && count_in(&s[..N], test) == N as u8
 }
 
 // The place past the blocks of 32 bytes that all pass, from `at` on.
@@ -33,7 +33,7 @@ fn skip_blocks<F: Fn(u8) -> bool>(s: &[u8], at: usize, test: &F) -> usize
     ensures { Passed (F.post test.now) s.now at result }
 {
     let mut i = at;
-    while all_in_block::<32, &F>(s, i, test) {
+    while all_in_block::<32, &F>(&s[i..], test) {
         i += 32;
     }
     i

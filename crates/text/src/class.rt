@@ -1,12 +1,10 @@
 // Classes of characters: those that the patterns and the grammar of JSDoc imports name.
-ghost use Rattle.std.specs.Prelude.{◌≡◌, [], ◌∷◌, ◌+◌, ◌≤◌, length, drop};
+ghost use Rattle.std.specs.Prelude.{◌≡◌, ◌+◌, ◌≤◌, length, drop};
 ghost use Rattle.laws.specs.code.Told.{Bounded};
-ghost use Rattle.text.specs.Ranges.{◌to◌, in_ranges};
 ghost use Rattle.text.specs.Class.{member, length_if, run_if, class_at, run_length};
 ghost use Rattle.text.specs.code.Tests.{ByTest};
 
 use super::alphabetic::is_alphabetic;
-use super::ranges::in_either;
 use super::utf8::{Encoding, char_at};
 use super::white_space::is_white_space;
 
@@ -23,13 +21,6 @@ pub enum Class {
     NameRest,
 }
 
-// Is the code point one of the two?
-fn is_either(code: u32, a: u32, b: u32) -> bool
-    ensures { result ≡ in_ranges ((a to a) ∷ (b to b) ∷ []) code }
-{
-    in_either(code, a, a, b, b)
-}
-
 // Is the code point of the class?
 #[tactic(auto, using(crate::proofs::Members::one_within), unfolding(crate::specs::Ranges::in_ranges, crate::specs::Class::ranges, crate::specs::Class::outside, crate::specs::Class::member))]
 pub fn in_class(class: Class, code: u32) -> bool
@@ -40,34 +31,32 @@ pub fn in_class(class: Class, code: u32) -> bool
         Class::NotWhite => !is_white_space(code),
         Class::WhiteOrStar => code == 0x2A || is_white_space(code),
         Class::NotLf => code != 0x0A,
-        Class::Quote => is_either(code, 0x22, 0x27),
-        Class::NotQuote => !is_either(code, 0x22, 0x27),
-        Class::SourceMark => is_either(code, 0x23, 0x40),
+        Class::Quote => matches!(code, 0x22 | 0x27),
+        Class::NotQuote => !matches!(code, 0x22 | 0x27),
+        Class::SourceMark => matches!(code, 0x23 | 0x40),
         Class::Alphabetic => is_alphabetic(code),
-        Class::NameRest => !is_either(code, 0x2D, 0x3A) && !is_white_space(code),
+        Class::NameRest => !matches!(code, 0x2D | 0x3A) && !is_white_space(code),
     }
 }
 
 // The same for a character of any length. Not inlined, so that a run of ASCII is a small loop.
 #[inline(never)]
-fn wide_length_if<F: Fn(u32) -> bool>(s: &[u8], at: usize, test: &F) -> usize
+fn wide_length_if<F: Fn(u32) -> bool>(s: &[u8], test: &F) -> usize
     requires callable { F.IsAlwaysCallable test.now }
-    requires place { at ≤ length s.now }
-    ensures { Bounded (ByTest (F.post test.now) λ p. result ≡ length_if p (drop at s.now)) (at + result ≤ length s.now) }
+    ensures { Bounded (ByTest (F.post test.now) λ p. result ≡ length_if p s.now) (result ≤ length s.now) }
 {
-    let c = char_at(s, at, Encoding::Utf8);
+    let c = char_at(s, Encoding::Utf8);
     if test(c.code) { c.len } else { 0 }
 }
 
-// The length in bytes of the character at `at` whose code point passes, 0 where none stands there.
-fn length_if<F: Fn(u32) -> bool>(s: &[u8], at: usize, test: &F) -> usize
+// The length in bytes of the character that the text begins with and whose code point passes, 0 where none stands there.
+fn length_if<F: Fn(u32) -> bool>(s: &[u8], test: &F) -> usize
     requires callable { F.IsAlwaysCallable test.now }
-    requires place { at ≤ length s.now }
-    ensures { Bounded (ByTest (F.post test.now) λ p. result ≡ length_if p (drop at s.now)) (at + result ≤ length s.now) }
+    ensures { Bounded (ByTest (F.post test.now) λ p. result ≡ length_if p s.now) (result ≤ length s.now) }
 {
-    match s.get(at) {
-        Some(b) if *b < 0x80 => usize::from(test(u32::from(*b))),
-        _ => wide_length_if(s, at, test),
+    match s {
+        [b, ..] if *b < 0x80 => usize::from(test(u32::from(*b))),
+        _ => wide_length_if(s, test),
     }
 }
 
@@ -79,7 +68,7 @@ pub fn run_end_if<F: Fn(u32) -> bool>(s: &[u8], at: usize, test: &F) -> usize
 {
     let mut i = at;
     loop {
-        let n = length_if(s, i, test);
+        let n = length_if(&s[i..], test);
         if n == 0 {
             return i;
         }
@@ -87,13 +76,12 @@ pub fn run_end_if<F: Fn(u32) -> bool>(s: &[u8], at: usize, test: &F) -> usize
     }
 }
 
-// The length in bytes of the character of the class at `at`, 0 where none stands there.
+// The length in bytes of the character of the class that the text begins with, 0 where none stands there.
 #[tactic(auto, unfolding(crate::specs::Class::class_at))]
-pub fn class_at(s: &[u8], at: usize, class: Class) -> usize
-    requires { at ≤ length s.now }
-    ensures { Bounded (result ≡ class_at class (drop at s.now)) (at + result ≤ length s.now) }
+pub fn class_at(s: &[u8], class: Class) -> usize
+    ensures { Bounded (result ≡ class_at class s.now) (result ≤ length s.now) }
 {
-    length_if(s, at, &move |code| in_class(class, code))
+    length_if(s, &move |code| in_class(class, code))
 }
 
 // The end of the longest run of the class from `at` on.

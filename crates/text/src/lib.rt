@@ -1,4 +1,4 @@
-// Texts as bytes: characters of UTF-8 and WTF-8, classes of characters, lines and columns, surrogates, comparison.
+// Texts as bytes: characters of UTF-8 and WTF-8, classes of characters, lines and columns, surrogates.
 #![tactic(auto)]
 
 pub mod alphabetic;

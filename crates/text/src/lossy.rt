@@ -12,10 +12,5 @@ pub fn is_exact(s: &[u8]) -> bool
     ensures { Meant (result ≡ exact s.now)
         ((points : List ℕ) → TextOf Wtf8 points s.now → LossyOf points s.now) }
 {
-    for i in 0..s.len() {
-        if surrogate_at(s, i) {
-            return false;
-        }
-    }
-    true
+    (0..s.len()).all(|i| !surrogate_at(&s[i..]))
 }

@@ -11,7 +11,7 @@ ghost use Rattle.text.specs.code.Index.{position_in, positions_in, IndexOf};
 use super::blocks::{all_in_block, count_in};
 use std::mem::size_of;
 
-#[derive(Clone, Copy, Debug, PartialEq, Eq)]
+#[derive(Clone, Copy, Debug, Default, PartialEq, Eq)]
 pub struct Position {
     pub line: usize,
     pub column: usize,
@@ -76,13 +76,14 @@ fn past(p: Position, b: u8) -> Position
     }
 }
 
-// The position at `at`, where that at `from` is `start`.
-fn scan(s: &[u8], start: Position, from: usize, at: usize) -> Position
-    requires { (from ≤ at) × (at ≤ length s.now) × (start.line < 4294967296 + from) × (start.column < 4294967296 + from) }
-    ensures { result ≡ walk characters start (take (at - from) (drop from s.now)) }
+// The position past a text, where that at its start is `start`.
+#[tactic(auto, using(crate::proofs::Positions::walk_more, crate::proofs::Positions::step_bounded), unfolding(crate::specs::Position::walk))]
+fn scan(text: &[u8], start: Position) -> Position
+    requires { (start.line < 9223372036854775808) × (start.column < 9223372036854775808) }
+    ensures { result ≡ walk characters start text.now }
 {
     let mut p = start;
-    for b in &s[from..at] {
+    for b in text {
         p = past(p, *b);
     }
     p
@@ -106,7 +107,7 @@ fn begun_from(block: &[u8; 64], k: u8) -> u8
     requires { k ≤ 64 }
     ensures { result ≡ count_by begins_one (take (64 - k) (drop k block.now)) }
 {
-    if all_in_block::<64, _>(block, 0, |b| b < 128) {
+    if all_in_block::<64, _>(block, |b| b < 128) {
         return 64 - k;
     }
     count_in(&block[k as usize..], |b| !goes_on(b))
@@ -140,7 +141,7 @@ pub fn build_index(s: &[u8], index: &mut [PositionRow])
         (Indexed characters s.now (positions_in index.new) (length s.now / 64 + 1))
         (KeptFrom (length s.now / 64 + 1) index.old index.new) }
 {
-    let mut p = Position { line: 0, column: 0 };
+    let mut p = Position::default();
     let mut rest = s;
     for row in index.iter_mut() {
         *row = PositionRow::new(p);
@@ -161,8 +162,8 @@ pub fn indexed_position(s: &[u8], index: &[PositionRow], at: usize) -> Position
 {
     let k = at / 64;
     match index.get(k) {
-        Some(row) => scan(s, Position::from(*row), 64 * k, at),
-        None => scan(s, Position { line: 0, column: 0 }, 0, at),
+        Some(row) => scan(&s[64 * k..at], Position::from(*row)),
+        None => scan(&s[..at], Position::default()),
     }
 }
 
@@ -179,7 +180,7 @@ pub fn later_position(
     ensures { result ≡ position_of characters s.now at }
 {
     if from <= at && at - from < at % 64 {
-        return scan(s, start, from, at);
+        return scan(&s[from..at], start);
     }
     indexed_position(s, index, at)
 }

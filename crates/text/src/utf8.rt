@@ -1,5 +1,5 @@
 // UTF-8 and WTF-8, by the rows of Unicode's table of well-formed byte sequences.
-ghost use Rattle.std.specs.Prelude.{◌≡◌, false, ◌≤◌, ◌<◌, ◌+◌, length, drop};
+ghost use Rattle.std.specs.Prelude.{◌≡◌, false, ◌≤◌, ◌<◌, length, drop};
 ghost use Rattle.laws.specs.code.Told.{Meant};
 ghost use Rattle.text.specs.Utf8.{admits, surrogate, besides, length_by, char_length, code_by, char_at, formed, well_formed};
 ghost use Rattle.text.specs.code.Rows.{ranges_of, all_within};
@@ -53,12 +53,11 @@ fn begins_as<const N: usize>(s: &[u8], row: [(u8, u8); N]) -> bool
     N <= s.len() && all_within(s, &row)
 }
 
-// A surrogate stands at `at`.
-pub fn surrogate_at(s: &[u8], at: usize) -> bool
-    requires { at ≤ length s.now }
-    ensures { result ≡ admits surrogate (drop at s.now) }
+// The text begins with a surrogate.
+pub fn surrogate_at(s: &[u8]) -> bool
+    ensures { result ≡ admits surrogate s.now }
 {
-    begins_as(&s[at..], SURROGATE)
+    begins_as(s, SURROGATE)
 }
 
 // The length by the rows that an encoding has besides the table.
@@ -72,10 +71,10 @@ fn length_besides(s: &[u8], encoding: Encoding) -> usize
     }
 }
 
-// The length by the rows, from the first on.
-#[tactic(auto, unfolding(crate::specs::Utf8::length_by, crate::specs::Utf8::char_length))]
-fn length_by_rows(s: &[u8], encoding: Encoding) -> usize
-    ensures { result ≡ char_length encoding s.now }
+// The length in bytes of the character that the text begins with, by the rows from the first on; 0 where none of them admits it.
+#[tactic(auto, using(crate::proofs::ByRows::measured), unfolding(crate::specs::Utf8::length_by, crate::specs::Utf8::char_length))]
+pub fn char_length(s: &[u8], encoding: Encoding) -> usize
+    ensures { Meant (result ≡ char_length encoding s.now) (ByRows encoding s.now result) }
 {
     if begins_as(s, [(0x00, 0x7F)]) {
         1
@@ -97,49 +96,37 @@ fn length_by_rows(s: &[u8], encoding: Encoding) -> usize
     }
 }
 
-// How many bytes the character at `at` has; 0 where none of the rows admits what stands there.
-#[tactic(auto, using(crate::proofs::ByRows::measured, std::proofs::lemmas::List::take_rest))]
-pub fn char_length(s: &[u8], at: usize, encoding: Encoding) -> usize
-    requires { at ≤ length s.now }
-    ensures { Meant (result ≡ char_length encoding (drop at s.now))
-        (ByRows encoding (drop at s.now) result) }
-{
-    length_by_rows(&s[at..], encoding)
-}
-
-// The code point of the `n` bytes at `at`.
+// The code point of the first `n` bytes.
 #[tactic(auto, unfolding(crate::specs::Utf8::code_by))]
-fn code_at(s: &[u8], at: usize, n: usize) -> u32
-    requires { at ≤ length s.now }
-    ensures { result ≡ code_by n (drop at s.now) }
+fn code_at(s: &[u8], n: usize) -> u32
+    ensures { result ≡ code_by n s.now }
 {
-    let a = byte_at(s, at);
+    let a = byte_at(s, 0);
     if n == 1 {
         return a;
     }
-    let b = byte_at(s, at + 1) % 64;
+    let b = byte_at(s, 1) % 64;
     if n == 2 {
         return a % 32 * 64 + b;
     }
-    let c = byte_at(s, at + 2) % 64;
+    let c = byte_at(s, 2) % 64;
     if n == 3 {
         return a % 16 * 4096 + b * 64 + c;
     }
-    let d = byte_at(s, at + 3) % 64;
+    let d = byte_at(s, 3) % 64;
     if n == 4 {
         return a % 8 * 262144 + b * 4096 + c * 64 + d;
     }
     0
 }
 
-// The character at `at`.
+// The character that the text begins with.
 #[tactic(auto, unfolding(crate::specs::Utf8::char_at))]
-pub fn char_at(s: &[u8], at: usize, encoding: Encoding) -> Char
-    requires { at ≤ length s.now }
-    ensures { result ≡ char_at encoding (drop at s.now) }
+pub fn char_at(s: &[u8], encoding: Encoding) -> Char
+    ensures { result ≡ char_at encoding s.now }
 {
-    let len = char_length(s, at, encoding);
-    let code = code_at(s, at, len);
+    let len = char_length(s, encoding);
+    let code = code_at(s, len);
     Char { len, code }
 }
 
@@ -163,7 +150,7 @@ fn run_to(s: &[u8], at: usize, stop: usize, encoding: Encoding) -> usize
         if s[i] < 128 {
             i += 1;
         } else {
-            let n = char_length(s, i, encoding);
+            let n = char_length(&s[i..], encoding);
             if n == 0 {
                 return i;
             }
@@ -179,9 +166,9 @@ pub fn well_formed(s: &[u8], encoding: Encoding) -> bool
 {
     let mut at = 0;
     while at < s.len() {
-        if all_in_block::<32, _>(s, at, |b| b < 128) {
+        if all_in_block::<32, _>(&s[at..], |b| b < 128) {
             at += 32;
-        } else if all_in_block::<8, _>(s, at, |b| b < 128) {
+        } else if all_in_block::<8, _>(&s[at..], |b| b < 128) {
             at += 8;
         } else {
             let stop = block_end(s, at);

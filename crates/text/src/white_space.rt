@@ -3,7 +3,7 @@ ghost use Rattle.std.specs.Prelude.{◌≡◌};
 ghost use Rattle.text.specs.Ranges.{in_ranges};
 ghost use Rattle.text.specs.WhiteSpace.{white_space};
 
-use super::ranges::{in_either, in_table};
+use super::ranges::in_table;
 
 // The bounds of the ranges: even places start a range, odd places end it; the end is not in it.
 const BOUNDS: [u32; 20] = [
@@ -12,11 +12,12 @@ const BOUNDS: [u32; 20] = [
 ];
 
 // Is the code point White_Space? ASCII needs no table.
+#[tactic(auto, using(crate::proofs::AsciiRanges::blanks))]
 pub fn is_white_space(code: u32) -> bool
     ensures { result ≡ in_ranges white_space code }
 {
     if code < 0x80 {
-        return in_either(code, 0x09, 0x0D, 0x20, 0x20);
+        return matches!(code, 0x09..=0x0D | 0x20);
     }
     in_table(&BOUNDS, code)
 }

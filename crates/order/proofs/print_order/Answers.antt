@@ -11,8 +11,8 @@ slice_bounds-result-end c =
 pub returns : goal.returns
 returns c =
     let put = c.put_order.ensures in
-    let line = rw c.requires.work_len at put.answer in
-    let short = rw c.requires.work_len at put.bounds in
+    let line = rw c.told-work at put.answer in
+    let short = rw c.told-work at put.bounds in
     let keeps = wrote_keeps _ _ _ line in
     let lent : c.new-w.result.out.now ≡ c.args.line.now = search rules in
-    (all_written _ _ line (search rules) (rw lent (omega (arith, short, c.requires.line_room_in_bounds))) (search rules) c.written-length.ensures).1
+    (all_written _ _ line (search rules) (rw lent (omega (arith, short, c.requires))) (search rules) c.written-length.ensures).1

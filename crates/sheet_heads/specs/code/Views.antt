@@ -1,5 +1,5 @@
 -- What the answers of the code stand for, and the bounds that they keep.
-use Rattle.std.specs.Prelude.{◌≡◌, Bool, List, ◌∷◌, ℕ, ◌≤◌, ◌<◌, length, None, Option, Some, Result, Ok, Err}
+use Rattle.std.specs.Prelude.{◌≡◌, Bool, List, ◌∷◌, ℕ, ◌≤◌, ◌<◌, length, None, Option, option_map, Some, Result, Ok, Err}
 use Rattle.std.specs.Borrow.{Bor}
 use Rattle.laws.specs.Decoded.{Decoded}
 use Rattle.wire.specs.Number.{largest}
@@ -70,8 +70,7 @@ head_of (head.ExportAll d) = export_all_head d.type_only (quoted_of d.specifier)
 head_of (head.ImportType x n) = import_type_head (quoted_of x) n
 head_of head.ImportEquals = import_equals_head
 head_of (head.ImportRequire d) = import_require_head d.type_only d.export (quoted_of d.specifier)
-head_of (head.Module n) = module_head None n
-head_of (head.NamedModule x n) = module_head (Some (quoted_of x)) n
+head_of (head.Module x n) = module_head (option_map quoted_of x) n
 
 abbrev pub fields_as : ReadResult h.Head → Decoded Head
 fields_as = read_with head_of
@@ -118,7 +117,7 @@ Spanned source (head.ExportFrom d) = SpanIn source d.specifier.span
 Spanned source (head.ExportAll d) = SpanIn source d.specifier.span
 Spanned source (head.ImportType x n) = SpanIn source x.span
 Spanned source (head.ImportRequire d) = SpanIn source d.specifier.span
-Spanned source (head.NamedModule x n) = SpanIn source x.span
+Spanned source (head.Module (Some x) n) = SpanIn source x.span
 Spanned source _ = Unit {0}
 
 -- no more than n bytes are left

@@ -1,5 +1,5 @@
 -- What a search says of the places that it passed.
-use Rattle.std.specs.Prelude.{◌≡◌, Bool, true, false, List, ℕ, ◌+◌, ◌≤◌, ◌<◌, length, get_or, count_by}
+use Rattle.std.specs.Prelude.{◌≡◌, Bool, true, false, List, ℕ, ◌≤◌, ◌<◌, length, get_or, count_by}
 
 -- p is what a test answers, by the answers that it may give of a byte
 abbrev pub TestOf : (ℕ → Bool → Type 0) → (ℕ → Bool) → Type 0
@@ -9,9 +9,9 @@ TestOf gives p = (b : ℕ) (r : Bool) → b < 256 → gives b r → r ≡ p b
 abbrev pub Counts : (ℕ → Bool → Type 0) → List ℕ → ℕ → Type 0
 Counts gives s n = (p : ℕ → Bool) → TestOf gives p → n ≡ count_by p s
 
--- the n bytes at `at` pass it
-abbrev pub AllPass : (ℕ → Bool → Type 0) → List ℕ → ℕ → ℕ → Type 0
-AllPass gives s at n = (p : ℕ → Bool) → TestOf gives p → (k : ℕ) → k < n → p (get_or s (at + k) 0) ≡ true
+-- the first n bytes pass it
+abbrev pub AllPass : (ℕ → Bool → Type 0) → List ℕ → ℕ → Type 0
+AllPass gives s n = (p : ℕ → Bool) → TestOf gives p → (k : ℕ) → k < n → p (get_or s k 0) ≡ true
 
 -- from `at` on to r, of n places at most: P holds of each place between
 pub record Passing (P : ℕ → Type 0) (at n r : ℕ) : Type 0 where

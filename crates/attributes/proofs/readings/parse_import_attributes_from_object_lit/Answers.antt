@@ -1,14 +1,10 @@
-use Rattle.laws.proofs.Prelude.{rules, ◌≡◌, refl, sym, ap, ◌∙◌, Bool, true, false, ◌&&◌, List, arith}
-use Rattle.std.proofs.Math.Bool.{and-true}
+use Rattle.laws.proofs.Prelude.{rules, ◌≡◌, sym, ap, ◌∙◌, Bool, true, false, ◌&&◌, List, arith}
+use Rattle.std.proofs.Math.Bool.{and-true, and-false}
 use Rattle.report.specs.ModuleInfo.{KeyValue}
 use Rattle.attributes.specs.{Attributes.insert, code.Rows.pair_as, code.Views.kept, code.Views.all_keyed, code.Views.insert_if}
 use Rattle.attributes.proofs.{Insertion.insert_length, Loops.goes_on, Loops.stops, Loops.ends}
 use Rattle.attributes.proofs.readings.parse_import_attributes_from_object_lit.Goals as goal
 use Rattle.attributes.proofs.readings.parse_import_attributes_from_object_lit.Goals.{in-Some+then-counts, in-Some+else-counts, in-None}
-
-and_false : (b c : Bool) → (b && false) ≡ (false && c)
-and_false true c = refl
-and_false false c = refl
 
 inserted : (f : KeyValue → Bool) (a b : KeyValue) (l : List KeyValue) → true ≡ f b → b ≡ a → insert_if f a l ≡ insert b l
 inserted f a b l e i = let counts : f a ≡ true = rw i at (sym e) in rw (counts, i)
@@ -53,7 +49,7 @@ loop-preserved g c =
             rw w.pairs-is (omega arith),
             λ f tests.
                 rw (w.pairs-is, w.all_keyed-is) (goes_on (going f tests) c.loop-test.true read (λ es.
-                ap (λ b. (kept f l.pairs es, b)) (and_false l.all_keyed (all_keyed es)))),
+                ap (λ b. (kept f l.pairs es, b)) (and-false l.all_keyed))),
           )
     ]
 

@@ -18,7 +18,7 @@ returns-in-Static c =
           let types = simp append_assoc at e in
           let (x, e) = c.read_text.ensures d.specifier.text v.specifier.text _
           (c.skip_optional-next.ensures d.types_specifier v.types_specifier _ types) in
-          let (_, e) = c.read_range.ensures.answer d.specifier.range v.specifier.range _ e in
+          let (_, e) = c.read_range.ensures d.specifier.range v.specifier.range _ e in
           let (_, e) = c.read_flag.ensures d.side_effect tt _ e in
           let same = static_told (told kind (Static d.kind) is) in
           (rw (same, x), c.skip_attributes.ensures d.import_attributes v.import_attributes t e)
@@ -39,6 +39,6 @@ returns-in-Dynamic c =
           let types = simp append_assoc at (byte _ (small (Dynamic d.kind)) _ e).1 in
           let e = c.skip_argument.ensures d.argument v.argument _
           (c.skip_optional-next.ensures d.types_specifier v.types_specifier _ types) in
-          let (_, e) = c.read_range-in-Dynamic.ensures.answer d.argument_range v.argument_range _ e in
+          let (_, e) = c.read_range-in-Dynamic.ensures d.argument_range v.argument_range _ e in
           (refl, c.skip_attributes-in-Dynamic.ensures d.import_attributes v.import_attributes t e)
     ]

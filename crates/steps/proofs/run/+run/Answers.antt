@@ -1,61 +1,21 @@
-use Rattle.laws.proofs.Prelude.{refl, sym, ◌+◌, arith, length-drop, drop-drop}
-use Rattle.std.proofs.lemmas.List.{take_rest}
+use Rattle.laws.proofs.Prelude.{rules, refl, sym, arith}
 use Rattle.steps.proofs.Decoding.{read}
-use Rattle.steps.proofs.Running.{stays, onward, arrives, at_done, at_bad, passed, unpassed, at_longest, at_shortest, at_first, at_second}
-use Rattle.steps.proofs.Running.{short_hit, short_stop, short_on, long_all, long_hit, long_stop, long_back}
+use Rattle.steps.proofs.Running.{at_bad, at_step, unpassed, short_hit, short_stop, short_on, long_all, long_hit, long_stop, long_back}
 use Rattle.steps.proofs.run.+run.Goals as goal
 
-pub match_from-loop-step-init : goal.match_from-loop-step-init
-match_from-loop-step-init t c = (c.requires, omega arith, stays)
-
-pub match_from-returns-in-Done : goal.match_from-returns-in-Done
-match_from-returns-in-Done t c = arrives c.loop-step.invariant.2 (at_done (read c.loop-step.rest.now c.in-Ok.ensures.answer c.in-Done.is))
-
 pub match_from-returns-in_default : goal.match_from-returns-in_default
-match_from-returns-in_default t c = arrives c.loop-step.invariant.2 (at_bad (sym c.in_default.ensures.answer))
+match_from-returns-in_default t c = at_bad c.loop-step.invariant.2 (sym c.in_default.ensures.answer)
 
 pub match_from-returns-in_err-here-in-Pass : goal.match_from-returns-in_err-here-in-Pass
 match_from-returns-in_err-here-in-Pass t c =
     let is = read c.loop-step.rest.now c.in-Ok.ensures.answer c.in-Pass.is in
-    rw c.from_residual.ensures (arrives c.loop-step.invariant.2 (unpassed is c.pass.ensures.answer c.in_err-here-in-Pass.was))
-
-pub match_from-loop-step-preserved-in-Pass : goal.match_from-loop-step-preserved-in-Pass
-match_from-loop-step-preserved-in-Pass t c =
-    let rest = c.loop-step.rest.now in
-    let is = read rest c.in-Ok.ensures.answer c.in-Pass.is in
-    rw take_rest (
-      c.in_ok-here-in-Pass.ensures.bounds,
-      omega (arith, length-drop c.in-Pass.wide rest),
-      onward c.loop-step.invariant.2 (passed is c.pass.ensures.answer c.in_ok-here-in-Pass.was),
-    )
+    rw c.from_residual.ensures (unpassed c.loop-step.invariant.2 is c.pass.ensures.answer c.in_err-here-in-Pass.was)
 
 pub match_from-returns-in-Longest : goal.match_from-returns-in-Longest
-match_from-returns-in-Longest t c =
-    arrives c.loop-step.invariant.2
-    (at_longest (read c.loop-step.rest.now c.in-Ok.ensures.answer c.in-Longest.is) (rw take_rest at c.match_longest.ensures))
+match_from-returns-in-Longest t c = at_step c.loop-step.invariant.2 (search rules) c.match_longest.ensures
 
 pub match_from-returns-in-Shortest : goal.match_from-returns-in-Shortest
-match_from-returns-in-Shortest t c =
-    arrives c.loop-step.invariant.2
-    (at_shortest (read c.loop-step.rest.now c.in-Ok.ensures.answer c.in-Shortest.is) (rw take_rest at c.match_shortest.ensures))
-
-pub match_from-returns-then-is_some : goal.match_from-returns-then-is_some
-match_from-returns-then-is_some t c =
-    let is = read c.loop-step.rest.now c.in-Ok.ensures.answer c.in-Either.is in
-    let first = rw take_rest at c.split_at.ensures.front in
-    arrives c.loop-step.invariant.2 (at_first is (rw first at c.match_from-found.ensures) c.if-is_some.ensures)
-
-pub match_from-loop-step-preserved : goal.match_from-loop-step-preserved
-match_from-loop-step-preserved t c =
-    let rest = c.loop-step.rest.now in
-    let is = read rest c.in-Ok.ensures.answer c.in-Either.is in
-    let first = rw take_rest at c.split_at.ensures.front in
-    let second = rw (take_rest, drop-drop) at c.split_at.ensures.back in
-    rw second (
-      c.loop-step.invariant.0,
-      omega (arith, length-drop (2 + c.in-Either.n) rest),
-      onward c.loop-step.invariant.2 (at_second is (rw first at c.match_from-found.ensures) c.if-is_some.ensures),
-    )
+match_from-returns-in-Shortest t c = at_step c.loop-step.invariant.2 (search rules) c.match_shortest.ensures
 
 pub match_longest-loop-from-init : goal.match_longest-loop-from-init
 match_longest-loop-from-init t c = (omega (arith, c.run_end-end.ensures.answer), c.run_end-end.ensures.bounds, λ d l. l)

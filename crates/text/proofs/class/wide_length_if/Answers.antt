@@ -1,15 +1,12 @@
-use Rattle.laws.proofs.Prelude.{arith, true, ◌≤◌, length, drop, length-drop, known}
+use Rattle.laws.proofs.Prelude.{arith, true, known}
 use Rattle.text.proofs.{Runs.if_fits}
 use Rattle.text.proofs.class.wide_length_if.Goals as goal
 
 pub returns-then-test : goal.returns-then-test
 returns-then-test g c =
-    let a = c.args in
-    let t = drop a.at a.s.now in
-    let fits : c.char_at-c.result.len ≤ length t = rw c.char_at-c.ensures (if_fits (λ p. true) t) in
     record {
       answer = λ p says. rw (← c.char_at-c.ensures, known (says _ _ c.test.ensures) c.if-test.true);
-      bounds = omega (arith, fits, length-drop a.at a.s.now);
+      bounds = rw c.char_at-c.ensures (if_fits (λ p. true) c.args.s.now);
     }
 
 pub returns-else-test : goal.returns-else-test

@@ -1,4 +1,4 @@
-use Rattle.laws.proofs.Prelude.{arith, ◌≡◌, refl, ap, ◌∙◌, sym, ◌+◌, ◌*◌, ◌-◌, ◌/◌, ◌≤◌, ◌<◌, length, drop, drop-drop, length-drop, length-set}
+use Rattle.laws.proofs.Prelude.{arith, rules, ◌≡◌, refl, ap, ◌∙◌, sym, ◌+◌, ◌*◌, ◌-◌, ◌/◌, ◌≤◌, ◌<◌, length, drop, drop-drop, length-drop, length-set}
 use lib.Seq.{drop-set-lt}
 use Rattle.text.specs.Position.{characters, walk, position_of}
 use Rattle.text.proofs.Positions.{scanned, bounded, index_none, index_more}
@@ -6,7 +6,7 @@ use Rattle.text.proofs.position.build_index.Goals as goal
 
 pub loop-row-init : goal.loop-row-init
 unfolding position_of walk
-loop-row-init c = (refl, refl, omega arith, refl, index_none _, refl)
+loop-row-init c = (refl, search rules, omega arith, refl, index_none _, refl)
 
 pub new-requires : goal.new-requires
 new-requires c =

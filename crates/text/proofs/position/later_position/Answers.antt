@@ -8,7 +8,7 @@ scan-requires c =
     let p = c.requires in
     let a = c.args in
     let most = bounded a.s.now a.from p.0 p.2 in
-    (c.if-from-at.true, p.1, omega (arith, most.0), omega (arith, most.1))
+    (omega (arith, most.0), omega (arith, most.1))
 
 pub returns-then-at-from : goal.returns-then-at-from
 returns-then-at-from c =

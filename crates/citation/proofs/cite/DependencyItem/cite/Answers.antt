@@ -5,14 +5,14 @@ use Rattle.report.specs.Encode.{encode_attributes, encode_static, encode_dynamic
 use Rattle.report_reader.proofs.FromBytes.{byte_read}
 use Rattle.report_reader.proofs.KindsTold.{small, told, apart}
 use Rattle.citation.proofs.{Printing.both}
-use Rattle.citation.proofs.cite.Citing.cite_dependency.Goals as goal
+use Rattle.citation.proofs.cite.DependencyItem.cite.Goals as goal
 
 pub returns-in-Static-clause-answer : goal.returns-in-Static-clause-answer
 unfolding encode_dependency encode_static encode_dynamic
 returns-in-Static-clause-answer c =
     let number = c.read_number-kind in
     let kind = c.from in
-    let first = c.cite_specifier-first in
+    let first = c.cite_specifier-next in
     let flag = c.read_flag in
     let byte = byte_read number.ensures in
     elim [
@@ -20,9 +20,9 @@ returns-in-Static-clause-answer c =
           let types = simp append_assoc at (byte _ (small (Static d.kind)) _ e).1 in
           let (p, e) = first.ensures.answer d.specifier v.specifier _
           (c.skip_optional-next.ensures d.types_specifier v.types_specifier _ types) in
-          let (q, _) = c.cite_optional-second.ensures.answer d.types_specifier v.types_specifier _ types in
+          let (q, _) = c.cite_optional-more.ensures.answer d.types_specifier v.types_specifier _ types in
           let (_, e) = flag.ensures d.side_effect tt _ e in
-          (both p q, c.skip_attributes.ensures d.import_attributes v.import_attributes t e)
+          rw (← c.dependency_letter-letter.ensures) (both p q, c.skip_attributes.ensures d.import_attributes v.import_attributes t e)
       | dynamic d ↦ λ v t e.
           absurd (apart (sym c.in-Static.is ∙
           told kind.ensures (Dynamic d.kind) (byte _ (small (Dynamic d.kind)) _ e).0))
@@ -33,7 +33,7 @@ unfolding encode_dependency encode_static encode_dynamic
 returns-in-Dynamic-clause-answer c =
     let number = c.read_number-kind in
     let kind = c.from in
-    let first = c.cite_argument-first in
+    let first = c.cite_argument-next in
     let byte = byte_read number.ensures in
     elim [
       | static d ↦ λ v t e.
@@ -44,6 +44,6 @@ returns-in-Dynamic-clause-answer c =
           let (p, e) = first.ensures.answer (d.argument, d.argument_range) (v.argument, v.argument_range)
           (encode_attributes d.import_attributes ++ t)
           (rw append_assoc (c.skip_optional-next.ensures d.types_specifier v.types_specifier _ types)) in
-          let (q, _) = c.cite_optional-second-in-Dynamic.ensures.answer d.types_specifier v.types_specifier _ types in
-          (both p q, c.skip_attributes-in-Dynamic.ensures d.import_attributes v.import_attributes t e)
+          let (q, _) = c.cite_optional-more-in-Dynamic.ensures.answer d.types_specifier v.types_specifier _ types in
+          rw (← c.dependency_letter-letter.ensures) (both p q, c.skip_attributes-in-Dynamic.ensures d.import_attributes v.import_attributes t e)
     ]

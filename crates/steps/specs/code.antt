@@ -1,0 +1,2 @@
+-- What the values of the code stand for. No promise leads here: these definitions are checked, not believed.
+pub mod Views

@@ -1,12 +1,12 @@
 -- What each row matches, step by step, as its finder goes through it.
 use Rattle.std.specs.Prelude.{Option, Some, None, is_some}
 use Rattle.laws.proofs.Prelude.{◌≡◌, refl, sym, ap, ◌∙◌, true, false, true≢false, cond, List, [], ◌∷◌, flat_map, none-some, ℕ, zero, suc, ◌+◌, ◌<◌}
-use Rattle.laws.proofs.Prelude.{arith, ltb, drop, le-ltb, lt-ltb}
+use Rattle.laws.proofs.Prelude.{arith, ltb, length, drop, length-drop, ◌≤◌, eq-eqb, le-ltb, lt-ltb}
 use Rattle.std.proofs.lemmas.Option.{same_Some}
 use lib.Dec.{eqb-suc-zero}
 use Rattle.laws.specs.Ascii.{ascii}
 use Rattle.text.specs.declared.class.Class.TheVariants.{White, NotWhite, WhiteOrStar, NotLf, Quote, NotQuote, SourceMark}
-use Rattle.text.{specs.Ranges.in_ranges, proofs.Runs.run_stops, proofs.Runs.run_goes_on}
+use Rattle.text.{specs.Ranges.in_ranges, proofs.Runs.class_fits, proofs.Runs.run_stops, proofs.Runs.run_goes_on}
 use Rattle.text.specs.Class.{ranges, outside, member, class_at, run_end}
 use Rattle.analysis.specs.declared.Capture.{Capture}
 use Rattle.analysis.specs.Letters.{fold_case, behind, on_match, word_at}
@@ -164,6 +164,12 @@ module _ (s : List ℕ) (at : ℕ) where
       on_match (assigned_at w s e) [] (λ d. all quoted s d no_capture)))
   unfolding match_at all
   attribute_row_lem w = ap first (on (one_at White s at) λ e. assigned quoted white_quote w s e no_capture)
+
+  pub attribute_ends : (w : List ℕ) → length s ≤ at → match_at (attribute_row w) s at ≡ None
+  unfolding first
+  attribute_ends w h =
+      let z : class_at White (drop at s) ≡ 0 = omega (arith, class_fits White (drop at s), length-drop at s) in
+      rw (attribute_row_lem w, eq-eqb _ 0 z)
 
 -- the patterns that are anchored
 module _ (s : List ℕ) where

@@ -39,6 +39,7 @@ fn wide_letter_at(s: &[u8], letter: u8) -> usize
 
 // The length in bytes of the letter, whatever its case, that the text begins with, 0 where there is none.
 #[tactic(auto, using(crate::proofs::Spelling::ascii_letter))]
+#[inline(always)]
 fn letter_at(s: &[u8], letter: u8) -> usize
     ensures { Bounded (result ≡ letter_at letter s.now) (result ≤ length s.now) }
 {
@@ -52,6 +53,7 @@ fn letter_at(s: &[u8], letter: u8) -> usize
 }
 
 // Where the character of the class ends that stands at `at`.
+#[inline(always)]
 pub fn one_at(s: &[u8], at: usize, class: Class) -> Option<usize>
     requires { at ≤ length s.now }
     ensures { Bounded (result ≡ one_at class s.now at) (EndsBy result (length s.now)) }
@@ -65,6 +67,7 @@ pub fn one_at(s: &[u8], at: usize, class: Class) -> Option<usize>
 
 // Where the word ends that begins at `at`, letter by letter.
 #[tactic(auto, using(crate::proofs::Spelling::word_misses, crate::proofs::Spelling::word_goes_on, crate::proofs::Spelling::word_ends))]
+#[inline(always)]
 pub fn match_word(s: &[u8], at: usize, word: &[u8]) -> Option<usize>
     requires { at ≤ length s.now }
     ensures { Bounded (result ≡ word_at word.now s.now at) (EndsBy result (length s.now)) }
@@ -94,6 +97,7 @@ pub fn assigned_at(s: &[u8], at: usize, word: &[u8]) -> Option<usize>
 
 // ["']([^"']*)["']
 #[tactic(auto, using(crate::proofs::RowSteps::quoted_row), unfolding(crate::specs::Row::first))]
+#[inline(always)]
 pub fn quoted_at(s: &[u8], at: usize) -> Option<Capture>
     requires { at ≤ length s.now }
     ensures { Bounded (result ≡ match_at quoted s.now at) (FoundWithin result (length s.now)) }
@@ -152,6 +156,7 @@ pub fn reference_ends(s: &[u8], at: usize) -> bool
 
 // \sWORD\s*=\s*["']([^"']*)["']
 #[tactic(auto, using(crate::proofs::RowSteps::attribute_row_lem), unfolding(crate::specs::Row::first, crate::specs::Row::match_at))]
+#[inline(always)]
 fn attribute_at(s: &[u8], at: usize, word: &[u8]) -> Option<Capture>
     requires { at ≤ length s.now }
     ensures { Bounded (result ≡ match_at (attribute_row word.now) s.now at)
@@ -167,7 +172,7 @@ pub fn find_attribute(body: &[u8], word: &[u8]) -> Option<Capture>
     ensures { Bounded (result ≡ find (attribute_row word.now) body.now)
         (FoundWithin result (length body.now)) }
 {
-    (0..=body.len()).find_map(|at| attribute_at(body, at, word))
+    (0..body.len()).find_map(|at| attribute_at(body, at, word))
 }
 
 // ^[\s*]*WORD\s+(\S+), the word beginning with @

@@ -1,79 +1,69 @@
--- The search for a pair's place among rows whose keys ascend. And how many pairs there are with it.
-use Rattle.laws.proofs.Prelude.{arith, ◌≡◌, refl, ap, ◌∙◌, List, [], ◌∷◌, Memᴰ, Memᴰ_head, Memᴰ_tail, map, ℕ, zero, suc, ◌+◌, ◌≤◌, ◌<◌}
-use Rattle.laws.proofs.Prelude.{false, add-one, length, get_or, set}
+-- A pair's place among rows: at the first that it does not belong behind. And how many pairs there are with it.
+use Rattle.laws.proofs.Prelude.{arith, ◌≡◌, refl, ap, List, [], ◌∷◌, map, ℕ, zero, suc, ◌+◌, ◌≤◌, ◌<◌, Bool, cond, true, false, length, set}
 use Rattle.std.specs.Prelude.{Result, Ok, Err}
 use Rattle.std.specs.List as list
-use Rattle.std.specs.List.Sorted.{IsSearchInRange, IsBinarySearchResult, IsSortedBy}
 use Rattle.std.specs.List.{HoldsAt, AllWithin}
-use Rattle.std.specs.Ordering.{is_lt, ordering_reverse}
-use Rattle.std.proofs.lemmas.List.Sorted.{searchable_from_sorted}
-use Rattle.std.proofs.lemmas.List.{length-map}
-use Rattle.laws.specs.code.Told.{Told}
+use Rattle.std.specs.Ordering.{is_eq, is_le}
 use Rattle.std.specs.declared.cmp.Ordering.{Ordering}
 use Rattle.std.specs.declared.cmp.Ordering.TheVariants.{Less, Equal, Greater}
-use Rattle.text.{specs.Bytes.order, proofs.Words.order_same}
-use Rattle.report.specs.{Ascending.Ascends, ModuleInfo.KeyValue}
+use Rattle.std.proofs.lemmas.List.{length-map}
+use Rattle.laws.specs.code.Told.{Told}
+use Rattle.text.specs.Bytes.{order}
+use Rattle.report.specs.ModuleInfo.{KeyValue}
 use Rattle.attributes.specs.Attributes.{placed, insert}
 use Rattle.attributes.specs.declared.pairs.Pair.{Pair}
-use Rattle.attributes.proofs.Ascending.{order_total}
 use Rattle.attributes.specs.code.{Rows.pair_as, Views.slot_as, Views.SlotWithin}
 
-member : (rows : List Pair) (i : ℕ) (d : Pair) → i < length rows → Memᴰ (pair_as (get_or rows i d)) (map pair_as rows)
-member [] i d h = absurd (omega arith)
-member (row ∷ rows) zero d h = Memᴰ_head refl
-member (row ∷ rows) (suc i) d h = Memᴰ_tail (member rows i d (omega arith))
-
--- rows whose keys ascend are sorted
-rises : (rows : List Pair) → Ascends (map pair_as rows) → (k : ℕ) (d : Pair) → suc k < length rows
-    → is_lt (order (get_or rows (suc k) d).key.now (get_or rows k d).key.now) ≡ false
-rises [] h k d l = absurd (omega arith)
-rises (row ∷ []) h k d l = absurd (omega arith)
-rises (row ∷ next ∷ rows) h zero d l =
-    ap is_lt (order_total.antisymm next.key.now row.key.now ∙ ap ordering_reverse (h.0 (pair_as next) (Memᴰ_head refl)))
-rises (row ∷ next ∷ rows) h (suc k) d l = rises (next ∷ rows) h.1 k d (omega arith)
-
-sorted : (rows : List Pair) → Ascends (map pair_as rows) → IsSortedBy (λ x y. is_lt (order x.key.now y.key.now)) rows
-sorted rows h k d l m = rw add-one (rises rows h k d (omega arith))
+-- a pair put in its place, by the tests of what the comparison answers
+placed_by : (o : Ordering) (a b : KeyValue) (l further : List KeyValue)
+    → placed o a b l further ≡ cond (is_le o) (cond (is_eq o) (a ∷ l) (a ∷ b ∷ l)) (b ∷ further)
+placed_by Less a b l further = refl
+placed_by Equal a b l further = refl
+placed_by Greater a b l further = refl
 
 module _ (p : Pair) where
   abbrev against : Pair → Ordering
-  against row = order row.key.now p.key.now
+  against row = order p.key.now row.key.now
 
-  turned : (row : Pair) → order p.key.now row.key.now ≡ ordering_reverse (against row)
-  turned row = order_total.antisymm p.key.now row.key.now
+  -- behind the first i rows
+  abbrev Past : List Pair → ℕ → Type 0
+  Past rows i = AllWithin (λ row. is_le (against row) ≡ false) rows 0 i
 
-  -- a pair with the same key
-  instead : (rows : List Pair) → Ascends (map pair_as rows) → (i : ℕ) → i < length rows → HoldsAt (λ row. against row ≡ Equal) rows i
+  -- not behind the ith, whose key is the same or is not
+  abbrev Here : Bool → List Pair → ℕ → Type 0
+  Here same rows i = HoldsAt (λ row. (is_le (against row) ≡ true) × (is_eq (against row) ≡ same)) rows i
+
+  past_next : (row : Pair) (rows : List Pair) (i : ℕ) → Past (row ∷ rows) (suc i) → (is_le (against row) ≡ false) × Past rows i
+  past_next row rows i past = (past 0 p (omega arith) (omega arith), λ k d l m. past (suc k) d (omega arith) (omega arith))
+
+  instead : (rows : List Pair) (i : ℕ) → i < length rows → Past rows i → Here true rows i
       → set (map pair_as rows) i (pair_as p) ≡ insert (pair_as p) (map pair_as rows)
   unfolding insert
-  instead [] asc i h e = absurd (omega arith)
-  instead (row ∷ rows) asc zero h e = rw (turned row, e p) refl
-  instead (row ∷ rows) asc (suc i) h e =
-      let found = get_or rows i p in
-      let same = order_same found.key.now p.key.now (e p) in
-      let lower : against row ≡ Less = rw same at (asc.0 (pair_as found) (member rows i p (omega arith))) in
-      rw (turned row, lower) (ap (pair_as row ∷◌) (instead rows asc.1 i (omega arith) e))
+  instead [] i h past here = absurd (omega arith)
+  instead (row ∷ rows) zero h past here = let (e, f) = here p in rw (placed_by, e, f) refl
+  instead (row ∷ rows) (suc i) h past here =
+      let (first, more) = past_next row rows i past in
+      rw (placed_by, first) (ap (pair_as row ∷◌) (instead rows i (omega arith) more here))
 
-  -- none: those before are less, and those behind greater
-  between : (rows : List Pair) (i : ℕ) → i ≤ length rows → AllWithin (λ row. against row ≡ Less) rows 0 i
-      → AllWithin (λ row. against row ≡ Greater) rows i (length rows)
+  before : (rows : List Pair) (i : ℕ) → i ≤ length rows → Past rows i → (i < length rows → Here false rows i)
       → list.insert (map pair_as rows) i (pair_as p) ≡ insert (pair_as p) (map pair_as rows)
   unfolding insert
-  between [] zero h low high = refl
-  between [] (suc i) h low high = absurd (omega arith)
-  between (row ∷ rows) zero h low high = rw (turned row, high 0 p (omega arith) (omega arith)) refl
-  between (row ∷ rows) (suc i) h low high =
-      rw (turned row, low 0 p (omega arith) (omega arith)) (ap (pair_as row ∷◌) (between rows i (omega arith)
-      (λ k d l m. low (suc k) d (omega arith) (omega arith)) (λ k d l m. high (suc k) d (omega arith) (omega arith))))
+  before [] zero h past here = refl
+  before [] (suc i) h past here = absurd (omega arith)
+  before (row ∷ rows) zero h past here = let (e, f) = here (omega arith) p in rw (placed_by, e, f) refl
+  before (row ∷ rows) (suc i) h past here =
+      let (first, more) = past_next row rows i past in
+      rw (placed_by, first) (ap (pair_as row ∷◌) (before rows i (omega arith) more (λ l. here (omega arith))))
 
   -- what a search answers
-  pub searched : (rows : List Pair) → Ascends (map pair_as rows) → (r : Result ℕ ℕ) → IsSearchInRange r (length rows)
-      → IsBinarySearchResult against rows r
-      → Told (slot_as (pair_as p) (map pair_as rows)) (insert (pair_as p) (map pair_as rows)) (SlotWithin (length (map pair_as rows))) r
-  searched rows asc (Ok i) inside found = record { answer = instead rows asc i inside found; bounds = rw length-map inside }
-  searched rows asc (Err i) inside parted =
-      let (low, high) = parted (searchable_from_sorted order_total (λ row. row.key.now) rows p.key.now (sorted rows asc)) in
-      record { answer = between rows i inside low high; bounds = rw length-map inside }
+  abbrev IsSlot : List Pair → Result ℕ ℕ → Type 0
+  IsSlot rows = Told (slot_as (pair_as p) (map pair_as rows)) (insert (pair_as p) (map pair_as rows)) (SlotWithin (length (map pair_as rows)))
+
+  pub slot_same : (rows : List Pair) (i : ℕ) → i < length rows → Past rows i → Here true rows i → IsSlot rows (Ok i)
+  slot_same rows i h past here = record { answer = instead rows i h past here; bounds = rw length-map h }
+
+  pub slot_before : (rows : List Pair) (i : ℕ) → i ≤ length rows → Past rows i → (i < length rows → Here false rows i) → IsSlot rows (Err i)
+  slot_before rows i h past here = record { answer = before rows i h past here; bounds = rw length-map h }
 
 -- one more pair at most
 pub insert_length : (a : KeyValue) (pairs : List KeyValue) → length (insert a pairs) ≤ length pairs + 1

@@ -2,7 +2,7 @@
 use Rattle.std.specs.Prelude.{None, Some, Option, option_map}
 use Rattle.std.specs.Option.{is_some}
 use Rattle.std.specs.Borrow.{Bor}
-use Rattle.laws.proofs.Prelude.{◌≡◌, refl, ap, ◌∙◌, Bool, true, List, [], ◌∷◌, ℕ}
+use Rattle.laws.proofs.Prelude.{◌≡◌, refl, ap, ◌∙◌, Bool, true, false, not, List, [], ◌∷◌, ℕ}
 use Rattle.report.specs.ModuleInfo.{ImportAttribute, KeyValue}
 use Rattle.attributes.specs.Attributes.{insert, insert_known, value_of, Prop, keyless, keyed, static_pairs, object_attributes}
 use Rattle.attributes.specs.code.Views.{known_if, insert_if, kept, all_keyed}
@@ -25,9 +25,11 @@ all_kept l (keyless ∷ es) = refl
 all_kept l (keyed k v ∷ es) = all_kept (insert (record { key = k; value = value_of v }) l) es
 
 -- all pairs, where each key could be read
-pub all_read : (es : List Prop) {l : List KeyValue} {readable : Bool} → (l ≡ kept (λ a. true) [] es) × (readable ≡ all_keyed es)
+pub all_read : (es : List Prop) {l : List KeyValue} {readable : Bool} → readable ≡ all_keyed es
+    → (not readable ≡ false → l ≡ kept (λ a. true) [] es)
     → known_if readable l ≡ object_attributes [] es
-all_read es (e, f) = rw (e, f) (all_kept [] es)
+all_read es {readable = true} e f = rw (f refl) (rw (← e) at (all_kept [] es))
+all_read es {readable = false} e f = rw (← e) at (all_kept [] es)
 
 -- a pair has a value that is known
 pub has_value : (v : Option (Bor (List ℕ))) → is_some v ≡ is_some (option_map (λ (x : Bor (List ℕ)). x.now) v)

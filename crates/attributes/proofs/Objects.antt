@@ -1,5 +1,5 @@
 -- Where the readings begin: an Object that holds attributes, and the first of some arguments.
-use Rattle.laws.proofs.Prelude.{◌≡◌, sym, ap, ◌∙◌, Bool, true, false, cond, List, [], ℕ, ◌-◌, ◌<◌}
+use Rattle.laws.proofs.Prelude.{◌≡◌, sym, ap, ◌∙◌, Bool, true, false, cond, not, List, [], ℕ, ◌-◌, ◌<◌}
 use Rattle.laws.specs.Decoded.{ok, no, Decoder, return}
 use Rattle.laws.proofs.Decoding.{refused, then_ok}
 use Rattle.sheet.specs.{declared.fields.Span.Span, Shape.shape}
@@ -21,11 +21,11 @@ module _ (source : List ℕ) (levels : ℕ) (u : List ℕ) {a : Attributes} {t :
 
   -- the pairs behind the head, if they are all that the Object has, are the attributes of an import type
   pub type_read : {sp : Span} {n : ℕ} {w : List ℕ} → attributes_head source levels u ≡ ok (sp, n) w → {l : List KeyValue} {readable : Bool}
-      → ((ps : Properties) (t : List ℕ) → properties (node source (levels - 1)) n w ≡ ok ps t
-      → (l ≡ kept (λ a. true) [] (props ps)) × (readable ≡ all_keyed (props ps)))
+      → ((ps : Properties) (t : List ℕ) → properties (node source (levels - 1)) n w ≡ ok ps t → readable ≡ all_keyed (props ps))
+      → ((ps : Properties) (t : List ℕ) → properties (node source (levels - 1)) n w ≡ ok ps t → not readable ≡ false → l ≡ kept (λ a. true) [] (props ps))
       → known_if readable l ≡ type_attributes a
   unfolding type_attributes
-  type_read f read = let (ps, x, object) = behind_attributes f in all_read (props ps) (read ps t x) ∙ ap type_attributes object
+  type_read f keys read = let (ps, x, object) = behind_attributes f in all_read (props ps) (keys ps t x) (read ps t x) ∙ ap type_attributes object
 
   pub no_attributes : {r : ℕ} → attributes_head source levels u ≡ no r → ⊥
   no_attributes f = refused (rw f at (sym (attributes_by_head source levels u) ∙ e))

@@ -1,5 +1,6 @@
 -- Pairs in the first rows of a table: how many there are, one instead of another or before it, and the bytes of each.
-use Rattle.laws.proofs.Prelude.{◌≡◌, sym, ap, ◌∙◌, List, append_assoc, append-nil, flat_map, map, ℕ, ◌+◌, ◌-◌, ◌≤◌, ◌<◌, arith, length, get_or, set, take, drop}
+use Rattle.laws.proofs.Prelude.{◌≡◌, sym, ap, ◌∙◌, List, [], ◌∷◌, append_assoc, append-nil, flat_map, map, ℕ, suc, ◌+◌, ◌-◌, ◌≤◌, ◌<◌, arith, length}
+use Rattle.laws.proofs.Prelude.{get_or, set, take, take_all, drop}
 use Rattle.laws.proofs.Prelude.{length-drop, length-take, length-take-le, drop_of_length-le, take-append_seam, length-append, ◌++◌}
 use Rattle.laws.proofs.Lists.{flat_map_append}
 use Rattle.report.specs.{declared.writer.Writer.Writer, ModuleInfo.KeyValue, Encode.encode_key_value, Buffer.Wrote}
@@ -7,22 +8,29 @@ use Rattle.report.proofs.Buffers.{more_append}
 use Rattle.attributes.specs.declared.pairs.Pair.{Pair}
 use Rattle.attributes.specs.code.Rows.{pair_as, pairs_in}
 use Rattle.std.specs.List as list
-use borrow.Rule.Slice.PartMut.{post_of}
-use Rattle.std.proofs.Math.Seq.{paste, take-set-lt}
-use Rattle.std.proofs.lemmas.List.{set-append_left, take_more, take_more_set, take-take, get_or-map, length-map, map-set, map-append, take-map, drop-map}
+use borrow.Rule.Slice.PartMut.{mid_of, post_of, put_mid}
+use Rattle.std.proofs.Math.Seq.{take-set-lt}
+use Rattle.std.proofs.lemmas.List.{take_more, take_more_set, take-take, drop_more, drop-set-lt, get_or-map, length-map, map-set, map-append, take-map, drop-map}
 use Rattle.std.proofs.lemmas.Slice.{between_is}
 
+-- what was carried stored in the kth row, and the pair of that row carried on
+pub row_carried : {A : Type 0} (t : List A) (k : ℕ) (carried d : A) → k < length t
+    → list.insert (set t k carried) (k + 1) (get_or t k d) ≡ list.insert t k carried
+row_carried t k carried d h =
+    rw (take_more_set t k carried h, drop-set-lt (k + 1) t k carried (omega arith), drop_more t k d h, append_assoc)
+
 -- the rows from the ith on moved up by one, over the last, and a pair stored there
-pub row_opened : {A : Type 0} (t : List A) (i : ℕ) (p : A) → i < length t
-    → set (paste t (i + 1) (drop i t) (length t - 1 - i)) i p ≡ list.insert (take (length t - 1) t) i p
-row_opened t i p h =
+pub row_opened : {A : Type 0} (t moved : List A) (i k : ℕ) (p carried : A) → i < length t → length moved ≡ length (mid_of i (length t - i) t)
+    → length moved ≤ k → list.insert moved k carried ≡ p ∷ mid_of i (length t - i) t
+    → put_mid i (length t - i) t moved ≡ list.insert (take (length t - 1) t) i p
+row_opened t moved i k p carried h long end e =
     let n = length t - 1 in
-    let moved : paste t (i + 1) (drop i t) (n - i) ≡ take (i + 1) t ++ take (n - i) (drop i t) =
-    rw (drop_of_length-le t {i = i + 1 + (n - i)} (omega arith), append-nil) in
-    let in' : i < length (take (i + 1) t) = rw (length-take-le (i + 1) t (omega arith)) (omega arith) in
-    ap (λ l. set l i p) moved
-    ∙ set-append_left (take (i + 1) t) (take (n - i) (drop i t)) i p in'
-    ∙ rw (← take-set-lt (i + 1) t i p (omega arith), take_more_set t i p h, append_assoc, between_is t i n, take-take i n t (omega arith))
+    let rest : mid_of i (length t - i) t ≡ drop i t = take_all (length t - i) (drop i t) (omega (arith, length-drop i t)) in
+    let some : length moved ≡ suc (n - i) = omega (arith, length-drop i t, long ∙ ap length rest) in
+    let all : moved ++ carried ∷ [] ≡ p ∷ drop i t = rw (take_all k moved end, drop_of_length-le moved {i = k} end, rest) at e in
+    let kept : moved ≡ p ∷ take (n - i) (drop i t) = sym (take-append_seam moved (carried ∷ [])) ∙ rw (all, some) in
+    let none : post_of i (length t - i) t ≡ [] = drop_of_length-le (drop i t) {i = length t - i} (omega (arith, length-drop i t)) in
+    rw (none, append-nil, kept, between_is t i n, take-take i n t (omega arith))
 
 -- in rows that hold the pairs l
 module _ (rows : List Pair) (l : List KeyValue) (e : map pair_as rows ≡ l) where

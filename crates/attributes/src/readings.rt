@@ -1,5 +1,5 @@
 // The three readings of attributes of src/ast/dep.rs.
-ghost use Rattle.std.specs.Prelude.{◌≡◌, Bool, false, List, [], ℕ, ◌≤◌};
+ghost use Rattle.std.specs.Prelude.{◌≡◌, Bool, false, not, ◌&&◌, List, [], ℕ, ◌≤◌};
 ghost use Rattle.std.specs.Fn.{FnReturnsAt};
 ghost use Rattle.laws.specs.Decoded.{ok};
 ghost use Rattle.laws.specs.Ascii.{ascii};
@@ -43,25 +43,38 @@ pub fn parse_import_attributes<'t, 'a>(
         return ImportAttributes::Unknown;
     };
     let is_known = |pair: &Pair| pair.value.is_some();
-    parse_import_attributes_from_object_lit(source, next, count, levels - 1, is_known, pairs);
+    parse_import_attributes_from_object_lit(
+        source,
+        next,
+        count,
+        levels - 1,
+        false,
+        is_known,
+        pairs,
+    );
     ImportAttributes::Known(pairs)
 }
 
-// So many properties of an Object: the pairs that count are read into the table. Can each key be read?
+// So many properties of an Object: the pairs that count are read into the table. Can each key be read? With `stops` it ends at one that cannot.
 fn parse_import_attributes_from_object_lit<'a, F: Fn(&Pair<'a>) -> bool>(
     source: &[u8],
     s: &'a [u8],
     count: usize,
     levels: usize,
+    stops: bool,
     counts: F,
     pairs: &mut Pairs<'a>,
 ) -> bool
     requires few { count ≤ property_limit }
     requires callable { F.IsAlwaysCallable counts }
-    ensures { (f : KeyValue → Bool) (ps : Properties) (t : List ℕ)
+    ensures readable { (ps : Properties) (t : List ℕ)
+        → properties (node source.now levels) count s.now ≡ ok ps t
+        → result ≡ all_keyed (props ps) }
+    ensures unless_stopped { (f : KeyValue → Bool) (ps : Properties) (t : List ℕ)
         → Tests (FnReturnsAt F.Fn counts) f
         → properties (node source.now levels) count s.now ≡ ok ps t
-        → (pairs.new ≡ kept f [] (props ps)) × (result ≡ all_keyed (props ps)) }
+        → (stops && not result) ≡ false
+        → pairs.new ≡ kept f [] (props ps) }
 {
     let mut at = s;
     let mut all_keyed = true;
@@ -77,6 +90,7 @@ fn parse_import_attributes_from_object_lit<'a, F: Fn(&Pair<'a>) -> bool>(
                     pairs.insert(pair);
                 }
             }
+            None if stops => return false,
             None => all_keyed = false,
         }
         at = next;
@@ -102,7 +116,15 @@ pub fn parse_type_attributes<'t, 'a>(
     let Ok(((_, count), next)) = read_attributes(source, s, levels) else {
         return ImportAttributes::Unknown;
     };
-    if parse_import_attributes_from_object_lit(source, next, count, levels - 1, |_| true, pairs) {
+    if parse_import_attributes_from_object_lit(
+        source,
+        next,
+        count,
+        levels - 1,
+        true,
+        |_| true,
+        pairs,
+    ) {
         ImportAttributes::Known(pairs)
     } else {
         ImportAttributes::Unknown
@@ -119,7 +141,15 @@ fn parse_nested<'a>(source: &[u8], s: &'a [u8], levels: usize, pairs: &mut Pairs
     match read_value(source, s, levels) {
         Value::Text(_) | Value::Other => false,
         Value::Object(n, next) => {
-            parse_import_attributes_from_object_lit(source, next, n, levels - 1, |_| true, pairs)
+            parse_import_attributes_from_object_lit(
+                source,
+                next,
+                n,
+                levels - 1,
+                true,
+                |_| true,
+                pairs,
+            )
         }
     }
 }

@@ -46,7 +46,8 @@ fn put_escaped(b: u8, w: &mut Writer)
     ensures { Wrote w.old w.new (escaped b) }
 {
     if is_escaped(b) {
-        w.put_bytes(b"\\x");
+        w.put(b'\\');
+        w.put(b'x');
         w.put(hex_digit(b / 16));
         w.put(hex_digit(b % 16));
     } else {

@@ -1,6 +1,7 @@
 // The entries of a module, judged in the report of its sheet.
-ghost use Rattle.std.specs.Prelude.{◌≡◌, not, ◌&&◌};
+ghost use Rattle.std.specs.Prelude.{◌≡◌, not, ◌&&◌, IfSome};
 ghost use Rattle.sheet.specs.Shape.{is_relative};
+ghost use Rattle.report_reader.specs.code.FromFront.{EndOf, PartOf};
 ghost use Rattle.delivery.specs.Asks.{left_out};
 ghost use Rattle.delivery.specs.Order.{among};
 ghost use Rattle.delivery.specs.Right.{names_of};
@@ -41,7 +42,9 @@ fn is_late(kind: StaticDependencyKind, specifier: &[u8], earlier: &[ModuleRead])
 
 // The specifier of an entry that is late, if it is; and the bytes behind the entry.
 fn judge_entry<'a>(report: &'a [u8], earlier: &[ModuleRead]) -> (Option<&'a [u8]>, &'a [u8])
-    ensures { JudgesEntry (names_of (modules_in earlier.now)) report.now result }
+    ensures answer { JudgesEntry (names_of (modules_in earlier.now)) report.now result }
+    ensures part { IfSome result.0 (λ x. PartOf x.now report.now) }
+    ensures rest { EndOf result.1.now report.now }
 {
     let (dependency, next) = read_dependency(report);
     match dependency {
@@ -52,7 +55,8 @@ fn judge_entry<'a>(report: &'a [u8], earlier: &[ModuleRead]) -> (Option<&'a [u8]
 
 // The first entry in a report that is late behind the earlier modules.
 pub fn late_entry<'a>(report: &'a [u8], earlier: &[ModuleRead]) -> Option<Late<'a>>
-    ensures { TellsLate (names_of (modules_in earlier.now)) report.now result }
+    ensures answer { TellsLate (names_of (modules_in earlier.now)) report.now result }
+    ensures part { IfSome result (λ l. PartOf l.specifier.now report.now) }
 {
     let (_, next) = read_number(report);
     let (count, mut next) = read_number(next);

@@ -1,6 +1,6 @@
 -- What is written for a call, from what is written for its parts, and attributes by their head.
 use Rattle.std.specs.Borrow.{Bor}
-use Rattle.laws.proofs.Prelude.{◌≡◌, ◌⊎◌, Bool, true, false, List, [], inl, inr, ℕ, ◌-◌, arith}
+use Rattle.laws.proofs.Prelude.{◌≡◌, ◌⊎◌, Bool, true, false, List, [], inl, inr, Option, ℕ, ◌-◌, arith}
 use Rattle.laws.specs.Decoded.{Decoded, ok, and_then, on_ok, Decoder, ◌>>=◌, return}
 use Rattle.sheet.specs.{code.Commented.Commented, declared.fields.Span.Span}
 use Rattle.sheet.specs.declared.names.ImportPhase.TheVariants.{Evaluation, Source, Defer}
@@ -11,10 +11,11 @@ use Rattle.sheet_heads.specs.{declared.node.Head.Head, code.Rest.behind, code.Re
 use Rattle.sheet_heads.proofs.ByHead.{attributes_by_head, attributes_rest}
 use Rattle.report.specs.declared.names.DynamicDependencyKind.TheVariants as dynamics
 use Rattle.sheet_heads.specs.declared.node.Head.TheVariants as head
+use Rattle.report.specs.ModuleInfo.{SpecifierWithRange}
 use Rattle.attributes.specs.code.Views.{object_in}
 use Rattle.dep_entries.specs.code.Written.{Collected, with_entries}
 use Rattle.dep_entries.proofs.Wrote.{entries_append}
-use Rattle.dep.specs.Collect.{noting}
+use Rattle.dep.specs.Collect.{noting, collect_noted}
 use Rattle.dep.specs.code.Walk.{Calls, call_by, callees_of, names_require, after_node, after_nodes, after_call}
 use Rattle.dep.proofs.Added.{entries_last}
 
@@ -35,14 +36,17 @@ abbrev pub Leaf : Head → Type 0
 Leaf x = ((text : Bor (List ℕ)) × (x ≡ head.String text))
     ⊎ (((text : Bor (List ℕ)) × (x ≡ head.Name text)) ⊎ (((type_only : Bool) × (x ≡ head.NamedExport type_only)) ⊎ (x ≡ head.ImportEquals)))
 
--- a node that holds nothing and has no entry: a String, a Name, an export or an import-equals that names no module
-pub leaf_holds : (c : Commented) (levels : ℕ) (sp : Span) (x : Head) → Leaf x
-    → {w : Collected} → with_entries w [] ≡ w → (u : List ℕ) → ok w u ≡ on_ok (after_node c w) (rest c.source levels (sp, head_of x) u)
-unfolding noting
-leaf_holds c levels sp x (inl (text, k)) e u = rw (k, e)
-leaf_holds c levels sp x (inr (inl (text, k))) e u = rw (k, e)
-leaf_holds c levels sp x (inr (inr (inl (type_only, k)))) e u = rw (k, e)
-leaf_holds c levels sp x (inr (inr (inr k))) e u = rw (k, e)
+-- a node that holds nothing and has no entry: a String, a Name, an export or an import-equals that names no module; of a source with comments it is
+-- `after_node c`, where these give the types
+module _ (source : List ℕ) (types : ℕ → Option SpecifierWithRange) where
+  pub leaf_holds : (levels : ℕ) (sp : Span) (x : Head) → Leaf x
+      → {w : Collected} → with_entries w [] ≡ w → (u : List ℕ)
+      → ok w u ≡ on_ok (λ n. with_entries w (collect_noted source types n)) (rest source levels (sp, head_of x) u)
+  unfolding noting
+  leaf_holds levels sp x (inl (text, k)) e u = rw (k, e)
+  leaf_holds levels sp x (inr (inl (text, k))) e u = rw (k, e)
+  leaf_holds levels sp x (inr (inr (inl (type_only, k)))) e u = rw (k, e)
+  leaf_holds levels sp x (inr (inr (inr k))) e u = rw (k, e)
 
 module _ (c : Commented) (w : Collected) where
   -- a call of an expression, its callee walked

@@ -313,7 +313,7 @@ impl DependencyCollector<'_> {
 
     // So many nodes, one after the other. This loop and those over arguments and properties as one function would take closures, which in a cycle of
     // calls state their own contracts: that is longer than the loops.
-    #[tactic(auto, using(crate::proofs::Loops::nodes_turn), unfolding(crate::specs::Collect::noting, sheet::specs::Nodes::nodes, sheet::specs::Nodes::many))]
+    #[tactic(auto, using(crate::proofs::Loops::nodes_turn))]
     #[cycle(walk)]
     fn walk_nodes<'s>(
         &self,
@@ -351,7 +351,7 @@ impl DependencyCollector<'_> {
     }
 
     // So many arguments.
-    #[tactic(auto, using(crate::proofs::Loops::arguments_turn), unfolding(crate::specs::Collect::noting, sheet::specs::Nodes::arguments, sheet::specs::Nodes::many))]
+    #[tactic(auto, using(crate::proofs::Loops::arguments_turn))]
     #[cycle(walk)]
     fn walk_arguments<'s>(
         &self,
@@ -389,7 +389,7 @@ impl DependencyCollector<'_> {
     }
 
     // So many properties.
-    #[tactic(auto, using(crate::proofs::Loops::properties_turn), unfolding(crate::specs::Collect::noting, sheet::specs::Nodes::properties, sheet::specs::Nodes::many))]
+    #[tactic(auto, using(crate::proofs::Loops::properties_turn))]
     #[cycle(walk)]
     fn walk_properties<'s>(
         &self,

@@ -1,6 +1,6 @@
 -- The pieces at the front of some bytes, as the code finds them.
-use Rattle.laws.proofs.Prelude.{◌≡◌, refl, sym, ◌∙◌, Bool, true, false, cond, [], ◌∷◌, ℕ, zero, suc, ◌+◌, ◌-◌, ◌≤◌, ◌<◌, arith, length, take, drop, get_or}
-use Rattle.laws.proofs.Prelude.{length-drop, drop-drop, eq-eqb, ne_eqb, eqb, eqb-true, none-some}
+use Rattle.laws.proofs.Prelude.{◌≡◌, refl, sym, ◌∙◌, Bool, true, false, cond, ◌&&◌, [], ◌∷◌, ℕ, zero, suc, ◌+◌, ◌-◌, ◌≤◌, ◌<◌, arith, length, take, drop}
+use Rattle.laws.proofs.Prelude.{get_or, length-drop, drop-drop, eq-eqb, ne_eqb, eqb, eqb-true, none-some}
 use Rattle.std.specs.Prelude.{Option, Some, None, MatchOption, nat_eq}
 use Rattle.std.specs.Borrow.{Bor}
 use Rattle.std.specs.Cmp.Lexicographic.{pointwise}
@@ -8,6 +8,8 @@ use Rattle.std.proofs.lemmas.Cmp.{nat_list_eq_equiv}
 use Rattle.text.proofs.Words.{begins_is}
 use Rattle.text.specs.declared.class.Class.TheVariants.{Alphabetic, NameRest}
 use Rattle.text.specs.{Bytes.begins, Class.class_at, Class.run_length, code.Places.First}
+use Prim.Native.Char.{code}
+use Rattle.laws.specs.Ascii.{ascii}
 use Rattle.jsdoc.specs.Grammar.{Bytes}
 use Rattle.jsdoc.specs.Parsed.{Parsed, ok, backtrace}
 use Rattle.jsdoc.specs.Reader.{skip, tag, up_to, past_ident, parse_ident}
@@ -24,6 +26,17 @@ pub stripped : (w s : Bytes) (r : Option (Bor Bytes))
 unfolding tag
 stripped w s None m = rw (← begins_front w s, m)
 stripped w s (Some t) m = rw (← begins_front w s, m.0, m.1.0)
+
+never : {A : Type 0} (c : Bool) (a b : A) → cond (c && false) a b ≡ b
+never true a b = refl
+never false a b = refl
+
+-- a text whose second byte is no i begins no `@import`
+pub no_import : (s : Bytes) → (get_or s 1 0 ≡ code "i" → ⊥) → tag (ascii "@import") s ≡ backtrace
+unfolding tag begins
+no_import [] n = refl
+no_import (x ∷ []) n = never (eqb x (code "@")) _ _
+no_import (x ∷ y ∷ s) n = rw (ne_eqb y (code "i") n) (never (eqb x (code "@")) _ _)
 
 -- what is left behind the first of some bytes
 abbrev pub behind : Option Bytes → Parsed (Unit {0})

@@ -70,7 +70,7 @@ fn seek(s: &[u8]) -> &[u8]
 {
     let mut rest = s;
     'scan: while let [b, next @ ..] = rest {
-        if *b == b'}' || rest.starts_with(b"import") {
+        if *b == b'}' || (*b == b'i' && rest.starts_with(b"import")) {
             break 'scan;
         }
         rest = next;

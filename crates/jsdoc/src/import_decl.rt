@@ -9,6 +9,7 @@ use super::block::parse_import_attribute_block_for_resolution_mode;
 use super::clause::skip_clause;
 use super::pieces::{skip_whitespace, tag, whitespace, word};
 use super::quote::parse_quote;
+use text::bytes::byte_at;
 
 // `with {..}`, with the white space before it.
 #[tactic(auto, unfolding(crate::specs::Reader::parse_attributes))]
@@ -30,11 +31,14 @@ fn parse_from(s: &[u8]) -> Option<JsDocImport<'_>>
     Some(JsDocImport { start, end, mode })
 }
 
-// The declaration that begins `rest`.
-#[tactic(auto, unfolding(crate::specs::Reader::parse_jsdoc_import_decl))]
+// The declaration that begins `rest`. Most marks begin none, which the second byte tells.
+#[tactic(auto, using(crate::proofs::Steps::no_import), unfolding(crate::specs::Reader::parse_jsdoc_import_decl))]
 pub fn parse_jsdoc_import_decl(rest: &[u8]) -> Option<JsDocImport<'_>>
     ensures { hit_as result ≡ value (parse_jsdoc_import_decl rest.now) }
 {
+    if byte_at(rest, 1) != u32::from(b'i') {
+        return None;
+    }
     let s = tag(rest, b"@import")?;
     let s = whitespace(s)?;
     let s = skip_clause(s)?;

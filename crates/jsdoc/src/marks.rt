@@ -50,6 +50,7 @@ fn mark_braces<T: Copy, F: Fn(T, usize, Mode) -> T>(body: &[u8], table: &mut [T]
 
 // Marks the readings from each `@import`: the next place to look at is the next `@`.
 #[tactic(auto, using(crate::proofs::Marking::room_at, crate::proofs::Marking::declarations_end))]
+#[inline(never)]
 fn mark_declarations<T: Copy, F: Fn(T, usize, Mode) -> T>(body: &[u8], table: &mut [T], mark: &F)
     requires same { length table.old ≡ length body.now }
     requires callable { (x : T) (i : ℕ) (m : Mode) → i < length body.now → F.pre mark.now x i m }

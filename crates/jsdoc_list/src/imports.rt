@@ -5,6 +5,7 @@ ghost use Rattle.laws.specs.code.Told.{Beside};
 ghost use Rattle.text.specs.declared.utf8.Encoding.TheVariants.{Utf8};
 ghost use Rattle.text.specs.Utf8.{formed};
 ghost use Rattle.wire.specs.Fields.{value_of};
+ghost use Rattle.sheet.specs.Lookups.{HoldsMarks};
 ghost use Rattle.report.specs.Encode.{encode_jsdoc, encode_list};
 ghost use Rattle.report.specs.Decode.{modes};
 ghost use Rattle.report.specs.Buffer.{Wrote};
@@ -15,25 +16,29 @@ use jsdoc::quote::parse_quote;
 use report::names::ReferenceKind;
 use report::writer::Writer;
 use sheet::commented::{Comments, PlacedComment};
+use sheet::comments::Comment;
 use sheet::fields::Span;
+use sheet::lookups::body;
 use sheet::names::{MediaType, is_block, is_javascript};
 use text::bytes::next_nonzero;
 
 // Is it a block comment whose body begins with `*`?
 #[tactic(auto, using(text::proofs::Words::begins_is))]
-pub fn is_star_opened(c: &PlacedComment) -> bool
-    ensures { result ≡ is_star_opened c.now.source c.now.comment }
+pub fn is_star_opened(source: &[u8], c: Comment) -> bool
+    requires holds_marks { HoldsMarks c }
+    requires end_in_bounds { c.span.end ≤ length source.now }
+    ensures { result ≡ is_star_opened source.now c }
 {
-    is_block(c.comment().kind) && c.body().starts_with(b"*")
+    is_block(c.kind) && body(source, c).starts_with(b"*")
 }
 
 // Ticks the readings of a comment at its body.
-#[tactic(auto, using(crate::proofs::Ticking::ticked_part), unfolding(crate::specs::Imports::ticked_by))]
+#[tactic(auto, using(crate::proofs::Ticking::ticked_part, sheet::proofs::Marks::holds_marks_lem), unfolding(crate::specs::Imports::ticked_by))]
 fn tick_comment(c: &PlacedComment, ticks: &mut [u8])
     requires { length ticks.old ≡ length c.now.source }
     ensures { ticks.new ≡ ticked_by c.now.source c.now.comment ticks.old }
 {
-    if is_star_opened(c) {
+    if is_star_opened(c.comments().source(), c.comment()) {
         let Span { start, end } = c.body_span();
         jsdoc::imports::tick_imports(c.body(), &mut ticks[start..end]);
     }

@@ -45,13 +45,13 @@ fn put_openers(c: &PlacedComment, origins: &[u16], w: &mut Writer)
 }
 
 // Writes the origins of the imports of a comment.
-#[tactic(auto, using(crate::proofs::Openers::openers_within, report::proofs::Buffers::wrote_none, sheet::proofs::Bodies::placed_body), unfolding(laws::proofs::Prelude::flat_map, crate::specs::Origins::origins_of))]
+#[tactic(auto, using(crate::proofs::Openers::openers_within, report::proofs::Buffers::wrote_none, sheet::proofs::Bodies::placed_body, sheet::proofs::Marks::holds_marks_lem), unfolding(laws::proofs::Prelude::flat_map, crate::specs::Origins::origins_of))]
 fn put_comment_origins(c: &PlacedComment, origins: &mut [u16], w: &mut Writer)
     requires source_len_bound { length c.now.source ≤ source_limit }
     requires source_in_bounds { length c.now.source ≤ length origins.old }
     ensures { Wrote w.old w.new (flat_map encode_origin (origins_of c.now.source c.now.comment)) }
 {
-    if is_star_opened(c) {
+    if is_star_opened(c.comments().source(), c.comment()) {
         let Span { start, end } = c.body_span();
         let noted = &mut origins[start..end];
         note_origins(c.body(), noted);

@@ -3,3 +3,5 @@ pub mod AcceptedSheet
 pub mod Pieces
 pub mod Located
 pub mod Judged
+pub mod Reached
+pub mod Views

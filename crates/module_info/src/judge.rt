@@ -1,45 +1,38 @@
 // What bytes are: none, a sheet that is refused, or one that is accepted. Each question that is asked of bytes begins here.
 ghost use Rattle.std.specs.Prelude.{◌≡◌, []};
+ghost use Rattle.text.specs.code.Index.{positions_in, IndexOf};
+ghost use Rattle.sheet_nodes.specs.code.Reach.{ReachesIn};
 ghost use Rattle.pragmas.specs.Pragmas.{head_comments, end_comments};
 ghost use Rattle.module_info.specs.code.AcceptedSheet.{IsAccepted, one_sheet};
-ghost use Rattle.module_info.specs.code.Pieces.{commented, Sound, PartsOf, AcceptsIn};
+ghost use Rattle.module_info.specs.code.Reached.{one_reach_in};
+ghost use Rattle.module_info.specs.code.Pieces.{commented, Sound, PartsOf, HasParts, AcceptsIn};
 ghost use Rattle.module_info.specs.code.Judged.{ChecksAs, JudgedAs};
 
 use sheet::commented::Comments;
 use sheet::limits::COMMENT_LIMIT;
 use sheet::tables::Tables;
 use sheet_check::check::{Parts, check_sheet};
-use std::marker::Model;
 use text::position::{PositionRow, build_index};
 use wire::refusals::Refusal;
 
 // The bytes of an accepted sheet, what the check found in them, and the index of its source's positions.
-#[derive(Drop)]
+#[derive(Clone, Copy)]
 pub struct Accepted<'a> {
     sheet: &'a [u8],
     parts: Parts<'a>,
     index: &'a [PositionRow],
     ghost accepted: { IsAccepted sheet.now } by { one_sheet sheet.now },
-}
-
-impl<'a> Model for Accepted<'a> {
-    ghost use Rattle.module_info.specs.code.AcceptedSheet.{AcceptedSheet, accepted_code};
-
-    ghost Value = { AcceptedSheet };
-
-    ghost coded = { accepted_code };
-
-    ghost use Rattle.module_info.specs.code.Pieces.{AcceptsIn};
-
-    ghost view = { λ a. record { bytes = a.sheet.now; sheet = a.accepted.0; accepted = a.accepted.1 } };
-
-    ghost invariant = { λ a. AcceptsIn a.sheet.now a.index.now a.parts };
+    ghost parted: { HasParts accepted.0 sheet.now parts },
+    ghost reaches: { ReachesIn parts.tree.reach accepted.0.root } by { one_reach_in parts.tree.reach accepted.0.root },
+    ghost indexed: { IndexOf parts.front.source.now (positions_in index.now) },
 }
 
 impl<'a> Accepted<'a> {
+    ghost use Rattle.module_info.specs.code.Views.{accepted_as};
+
     pub fn new(sheet: &'a [u8], parts: Parts<'a>, index: &'a [PositionRow]) -> Accepted<'a>
         requires { AcceptsIn sheet.now index.now parts }
-        ensures { result.bytes ≡ sheet.now }
+        ensures { (accepted_as result).bytes ≡ sheet.now }
     {
         Accepted {
             sheet,
@@ -50,14 +43,14 @@ impl<'a> Accepted<'a> {
 
     #[tactic(auto, using(crate::proofs::Accepted::parts_of))]
     pub fn parts(&self) -> Parts<'a>
-        ensures { PartsOf self.now.sheet self.now.bytes result }
+        ensures { PartsOf (accepted_as self.now).sheet (accepted_as self.now).bytes result }
     {
         self.parts
     }
 
-    #[tactic(auto, using(crate::proofs::Accepted::source_sound, crate::proofs::Accepted::commented_of))]
+    #[tactic(auto, using(crate::proofs::Accepted::sound_source, crate::proofs::Accepted::commented_of))]
     pub fn comments(&self) -> Comments<'a>
-        ensures comments { result ≡ commented self.now.sheet }
+        ensures comments { result ≡ commented (accepted_as self.now).sheet }
         ensures sound { Sound result.source }
     {
         let front = self.parts.front;
@@ -67,7 +60,7 @@ impl<'a> Accepted<'a> {
     // Those of the head group.
     #[tactic(auto, unfolding(pragmas::specs::Pragmas::head_comments))]
     pub fn head_comments(&self) -> Comments<'a>
-        ensures { result ≡ record { source = self.now.sheet.source; comments = head_comments self.now.sheet; groups = [] } }
+        ensures { result ≡ record { source = (accepted_as self.now).sheet.source; comments = head_comments (accepted_as self.now).sheet; groups = [] } }
     {
         let comments = self.comments();
         let program = self.parts().tree.program;
@@ -77,7 +70,7 @@ impl<'a> Accepted<'a> {
     // Those of the trailing group at the program's end.
     #[tactic(auto, unfolding(pragmas::specs::Pragmas::end_comments))]
     pub fn end_comments(&self) -> Comments<'a>
-        ensures { result ≡ record { source = self.now.sheet.source; comments = end_comments self.now.sheet; groups = [] } }
+        ensures { result ≡ record { source = (accepted_as self.now).sheet.source; comments = end_comments (accepted_as self.now).sheet; groups = [] } }
     {
         let comments = self.comments();
         let program = self.parts().tree.program;
@@ -90,7 +83,7 @@ impl<'a> Accepted<'a> {
 // free again for what follows.
 #[tactic(auto, using(crate::proofs::Accepted::source_sound))]
 fn check<'a>(sheet: &'a [u8], tables: &'a mut Tables) -> Result<Accepted<'a>, Refusal>
-    ensures { ChecksAs sheet.now result }
+    ensures { ChecksAs (λ a. a.sheet.now) sheet.now result }
 {
     let mut longest = [0u32; COMMENT_LIMIT];
     let Tables {
@@ -105,7 +98,7 @@ fn check<'a>(sheet: &'a [u8], tables: &'a mut Tables) -> Result<Accepted<'a>, Re
 
 // An accepted sheet, or the first refusal; of no bytes neither. The tables are lent to it.
 pub fn judge<'a>(sheet: &'a [u8], tables: &'a mut Tables) -> Result<Option<Accepted<'a>>, Refusal>
-    ensures { JudgedAs sheet.now result }
+    ensures { JudgedAs (λ a. a.sheet.now) sheet.now result }
 {
     if sheet.is_empty() {
         return Ok(None);

@@ -4,15 +4,18 @@
 pub mod judge;
 pub mod source_map;
 
-ghost use Rattle.std.specs.Prelude.{◌≡◌, List, ℕ, length, replicate};
+ghost use Rattle.std.specs.Prelude.{◌≡◌, ◌≤◌, true, List, ℕ, length, replicate};
 ghost use Rattle.laws.specs.code.Told.{Beside};
+ghost use Rattle.text.specs.declared.utf8.Encoding.TheVariants.{Utf8};
+ghost use Rattle.text.specs.Utf8.{formed};
 ghost use Rattle.report.specs.Buffer.{Wrote};
 ghost use Rattle.report.specs.Encode.{encode};
 ghost use Rattle.report.specs.Answer.{zeros, Outcome, outcome_as, fitted};
 ghost use Rattle.dep_entries.specs.code.Notes.{all_noted};
 ghost use Rattle.module_info.specs.Information.{module_info, default_info, packed};
 ghost use Rattle.module_info.specs.Replaced.{noted, notes_with, NotesRight};
-ghost use Rattle.module_info.specs.code.Pieces.{dependency_bytes, head_bytes, rest_bytes};
+ghost use Rattle.module_info.specs.code.Views.{accepted_as};
+ghost use Rattle.module_info.specs.code.Pieces.{Sound, dependency_bytes, head_bytes, import_bytes, rest_bytes};
 ghost use Rattle.module_info.specs.Demands.{Demands};
 
 use self::judge::{Accepted, judge};
@@ -23,13 +26,15 @@ use pragmas::readings::Rule;
 use pragmas::references::analyze_ts_references;
 use pragmas::{analyze_first, analyze_source_map_url};
 use report::writer::{Outcome, Writer, refuse_all};
+use sheet::commented::Comments;
 use sheet::limits::SOURCE_LIMIT;
+use sheet::names::MediaType;
 use sheet::tables::Tables;
 
 // The script flag and the dependencies, with their rows in the notes.
 fn put_dependencies(accepted: &Accepted, w: &mut Writer, notes: &mut [usize])
-    ensures { Beside (Wrote w.old w.new (dependency_bytes accepted.now.sheet))
-        (notes.new ≡ all_noted notes.old (noted accepted.now.sheet)) }
+    ensures { Beside (Wrote w.old w.new (dependency_bytes (accepted_as accepted.now).sheet))
+        (notes.new ≡ all_noted notes.old (noted (accepted_as accepted.now).sheet)) }
 {
     let comments = accepted.comments();
     let tree = accepted.parts().tree;
@@ -40,7 +45,7 @@ fn put_dependencies(accepted: &Accepted, w: &mut Writer, notes: &mut [usize])
 
 // What the head group gives: references, self types and both JSX sources.
 fn put_head(accepted: &Accepted, w: &mut Writer)
-    ensures { Wrote w.old w.new (head_bytes accepted.now.sheet) }
+    ensures { Wrote w.old w.new (head_bytes (accepted_as accepted.now).sheet) }
 {
     let head = accepted.head_comments();
     let media = accepted.parts().front.media;
@@ -50,42 +55,76 @@ fn put_head(accepted: &Accepted, w: &mut Writer)
     analyze_first(Rule::JsxImportSourceTypes, media, &head, w);
 }
 
-// The JSDoc imports and the source map. `ticks` is lent to work in, and comes cleared. Where they are too few, there are more here: ticks for the
-// longest source take longer to clear than many a sheet takes. The compiler inlines no function that calls itself, so these are not on the stack
-// while the tree is walked.
-#[tactic(auto, using(report::proofs::Buffers::more_append), unfolding(crate::specs::code::Pieces::rest_bytes, pragmas::specs::Pragmas::last_by))]
-fn put_rest(accepted: &Accepted, ticks: &mut [u8], w: &mut Writer)
-    requires { ticks.old ≡ replicate (length ticks.old) 0 }
-    ensures { Wrote w.old w.new (rest_bytes accepted.now.sheet) }
+// The JSDoc imports, by ticks that are no fewer than the source has bytes, and come cleared.
+fn put_ticked_imports(media: MediaType, comments: &Comments, ticks: &mut [u8], w: &mut Writer)
+    requires utf8 { formed Utf8 0 comments.now.source ≡ true }
+    requires enough { length comments.now.source ≤ length ticks.old }
+    requires cleared { ticks.old ≡ replicate (length ticks.old) 0 }
+    ensures { Wrote w.old w.new (import_bytes media comments.now) }
 {
-    let comments = accepted.comments();
     let long = comments.source().len();
-    if ticks.len() < long {
-        let mut more = [0u8; SOURCE_LIMIT];
-        return put_rest(accepted, &mut more, w);
+    analyze_jsdoc_imports(media, comments, &mut ticks[0..long], w);
+}
+
+// The same of the longest source. A function clears all its arrays where it begins, so each array stands in one that is called for its sake, and is
+// never inlined.
+#[inline(never)]
+fn put_long_imports(media: MediaType, comments: &Comments, w: &mut Writer)
+    requires { Sound comments.now.source }
+    ensures { Wrote w.old w.new (import_bytes media comments.now) }
+{
+    let mut ticks = [0u8; SOURCE_LIMIT];
+    put_ticked_imports(media, comments, &mut ticks, w);
+}
+
+// The same of a short source.
+#[inline(never)]
+fn put_short_imports(media: MediaType, comments: &Comments, w: &mut Writer)
+    requires utf8 { formed Utf8 0 comments.now.source ≡ true }
+    requires short { length comments.now.source ≤ 4096 }
+    ensures { Wrote w.old w.new (import_bytes media comments.now) }
+{
+    let mut ticks = [0u8; 4096];
+    put_ticked_imports(media, comments, &mut ticks, w);
+}
+
+// The JSDoc imports. What is lent is not the accepted sheet, which stays where `judge` answers it: to move it takes `memcpy`.
+fn put_imports(media: MediaType, comments: &Comments, w: &mut Writer)
+    requires { Sound comments.now.source }
+    ensures { Wrote w.old w.new (import_bytes media comments.now) }
+{
+    if comments.source().len() <= 4096 {
+        put_short_imports(media, comments, w);
+    } else {
+        put_long_imports(media, comments, w);
     }
-    let parts = accepted.parts();
-    analyze_jsdoc_imports(parts.front.media, &comments, &mut ticks[0..long], w);
+}
+
+// The JSDoc imports and the source map.
+#[tactic(auto, using(report::proofs::Buffers::more_append), unfolding(crate::specs::code::Pieces::rest_bytes, pragmas::specs::Pragmas::last_by))]
+fn put_rest(accepted: &Accepted, w: &mut Writer)
+    ensures { Wrote w.old w.new (rest_bytes (accepted_as accepted.now).sheet) }
+{
+    put_imports(accepted.parts().front.media, &accepted.comments(), w);
     analyze_source_map_url(&accepted.end_comments(), w);
 }
 
 // The parts of the report of a sheet, one after the other. The notes take a row for each dependency.
 #[tactic(auto, using(crate::proofs::Written::report_written))]
 fn put_noted_report(accepted: &Accepted, w: &mut Writer, notes: &mut [usize])
-    ensures { Beside (Wrote w.old w.new (encode (module_info accepted.now.sheet)))
-        (notes.new ≡ all_noted notes.old (noted accepted.now.sheet)) }
+    ensures { Beside (Wrote w.old w.new (encode (module_info (accepted_as accepted.now).sheet)))
+        (notes.new ≡ all_noted notes.old (noted (accepted_as accepted.now).sheet)) }
 {
     put_dependencies(accepted, w, notes);
     put_head(accepted, w);
-    let mut ticks = [0u8; 4096];
-    put_rest(accepted, &mut ticks, w);
+    put_rest(accepted, w);
 }
 
 // The report of an accepted sheet with its notes, which come cleared and are cleared where the report is refused.
 pub fn write_noted_report(accepted: &Accepted, buffer: &mut [u8], notes: &mut [usize]) -> Outcome
     requires { notes.old ≡ zeros (length notes.old) }
-    ensures { Beside (outcome_as result buffer.new ≡ fitted (length buffer.old) (encode (module_info accepted.now.sheet)))
-        (notes.new ≡ notes_with (length notes.old) (noted accepted.now.sheet) (outcome_as result buffer.new).number) }
+    ensures { Beside (outcome_as result buffer.new ≡ fitted (length buffer.old) (encode (module_info (accepted_as accepted.now).sheet)))
+        (notes.new ≡ notes_with (length notes.old) (noted (accepted_as accepted.now).sheet) (outcome_as result buffer.new).number) }
 {
     let mut w = Writer::new(buffer);
     put_noted_report(accepted, &mut w, notes);

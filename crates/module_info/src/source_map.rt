@@ -3,6 +3,8 @@ ghost use Rattle.std.specs.Prelude.{◌≡◌, ◌+◌, ◌<◌, ◌^◌, length
 ghost use Rattle.laws.specs.code.Told.{Bounded};
 ghost use Rattle.pragmas.specs.SourceMap.{standard_map};
 ghost use Rattle.pragmas.specs.code.Captured.{CaptureIn};
+ghost use Rattle.pragmas.specs.code.Views.{captured_as};
+ghost use Rattle.module_info.specs.code.Views.{accepted_as};
 ghost use Rattle.module_info.specs.code.Located.{place_from};
 ghost use Rattle.module_info.specs.SourceMap.{given, MapOutcome, map_of, map_as, TextInside, SourceMapRight, map_number, map_places};
 
@@ -28,10 +30,10 @@ pub type MapOutcome = Result<Option<SourceMap>, Refusal>;
 // Where a reading of the source stands in the sheet, whose source begins at `base`.
 #[tactic(auto, using(sheet::proofs::Bodies::placed_body))]
 fn locate(base: usize, taken: &Taken) -> SourceMap
-    requires { base + length taken.now.source < 2 ^ 64 }
+    requires { base + length (captured_as taken.now).source < 2 ^ 64 }
     ensures { Bounded
-        (result ≡ place_from base taken.now)
-        (CaptureIn taken.now.source taken.now.comment taken.now.capture) }
+        (result ≡ place_from base (captured_as taken.now))
+        (CaptureIn (captured_as taken.now).source (captured_as taken.now).comment (captured_as taken.now).capture) }
 {
     let found = taken.capture();
     let body = base + taken.comment().body_span().start;
@@ -47,8 +49,8 @@ fn locate(base: usize, taken: &Taken) -> SourceMap
 // The source map of an accepted sheet.
 fn read_source_map(accepted: &Accepted) -> Option<SourceMap>
     ensures { Bounded
-        (map_of accepted.now.bytes result ≡ standard_map accepted.now.sheet)
-        (TextInside accepted.now.bytes result) }
+        (map_of (accepted_as accepted.now).bytes result ≡ standard_map (accepted_as accepted.now).sheet)
+        (TextInside (accepted_as accepted.now).bytes result) }
 {
     let end = accepted.end_comments();
     let taken = find_last(&end, Rule::StandardSourceMap)?;

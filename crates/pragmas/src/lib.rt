@@ -14,7 +14,7 @@ ghost use Rattle.pragmas.specs.Asks.{source_map_url_rule};
 ghost use Rattle.pragmas.specs.Readings.{read_by, first_of, last_of};
 ghost use Rattle.pragmas.specs.Pragmas.{given_to, ts_or_deno_types, types_in};
 ghost use Rattle.pragmas.specs.code.Captured.{specifier_as};
-ghost use Rattle.pragmas.specs.code.Views.{asked, read_rule};
+ghost use Rattle.pragmas.specs.code.Views.{asked, read_rule, taken_as};
 
 use self::readings::{Rule, find_last, first_reading, last_comment, put_reading, read};
 use self::taken::Taken;
@@ -48,7 +48,7 @@ pub fn analyze_source_map_url(comments: &Comments, w: &mut Writer)
 // What the ts-types pattern reads in a comment, or else the deno-types one.
 #[tactic(auto, unfolding(crate::specs::Readings::read_by, crate::specs::Pragmas::ts_or_deno_types))]
 fn read_types<'a>(c: &PlacedComment<'a>) -> Option<Taken<'a>>
-    ensures { option_map specifier_as result ≡ ts_or_deno_types c.now.source c.now.comment }
+    ensures { option_map specifier_as (taken_as result) ≡ ts_or_deno_types c.now.source c.now.comment }
 {
     if let Some(taken) = read(c, Rule::TsTypes) {
         return Some(taken);

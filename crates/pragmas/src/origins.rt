@@ -4,7 +4,7 @@ ghost use Rattle.report.specs.Buffer.{Wrote};
 ghost use Rattle.report.specs.Origin.{encode_origin};
 ghost use Rattle.pragmas.specs.Readings.{all_of};
 ghost use Rattle.pragmas.specs.Origins.{reference_origin, head_origins, end_origins, ts_or_deno_origin, types_origins};
-ghost use Rattle.pragmas.specs.code.Views.{origin_as, encode_any};
+ghost use Rattle.pragmas.specs.code.Views.{taken_as, origin_as, encode_any};
 
 use super::readings::{Rule, find_last, first_reading, last_comment, read};
 use super::references::{Reference, read_reference};
@@ -17,7 +17,7 @@ use sheet::names::{MediaType, Side};
 // Writes the rule and the comment of a reading, if there is one.
 #[tactic(auto, using(report::proofs::Buffers::wrote_none))]
 fn put_reading_origin(entry: EntryRule, reading: Option<Taken>, w: &mut Writer)
-    ensures { Wrote w.old w.new (encode_any encode_origin (origin_as entry reading.entry)) }
+    ensures { Wrote w.old w.new (encode_any encode_origin (origin_as entry (taken_as reading.entry))) }
 {
     if let Some(taken) = reading {
         put_origin(entry, taken.comment().comment().span.start, w);

@@ -10,7 +10,7 @@ ghost use Rattle.report.specs.Buffer.{Wrote};
 ghost use Rattle.pragmas.specs.Readings.{first_of, last_of};
 ghost use Rattle.pragmas.specs.Pragmas.{given_to};
 ghost use Rattle.pragmas.specs.code.Captured.{specifier_as};
-ghost use Rattle.pragmas.specs.code.Views.{asked, find_rule, taken_by};
+ghost use Rattle.pragmas.specs.code.Views.{asked, find_rule, taken_by, taken_as};
 
 use super::taken::Taken;
 use analysis::{
@@ -78,7 +78,7 @@ impl Rule {
 
 // What a rule reads in a comment.
 pub fn read<'a>(c: &PlacedComment<'a>, rule: Rule) -> Option<Taken<'a>>
-    ensures { result ≡ taken_by rule c.now.source c.now.comment }
+    ensures { taken_as result ≡ taken_by rule c.now.source c.now.comment }
 {
     if !rule.takes(c.comment().kind) {
         return None;
@@ -90,7 +90,7 @@ pub fn read<'a>(c: &PlacedComment<'a>, rule: Rule) -> Option<Taken<'a>>
 // What it reads in the first of the comments that it reads.
 #[tactic(auto, using(crate::proofs::Turns::first_placed), unfolding(crate::specs::Readings::first_of))]
 pub fn find_first<'a>(comments: &'a Comments<'a>, rule: Rule) -> Option<Taken<'a>>
-    ensures { result ≡ first_of (taken_by rule comments.now.source) comments.now.comments }
+    ensures { taken_as result ≡ first_of (taken_by rule comments.now.source) comments.now.comments }
 {
     for c in comments.iter() {
         if let Some(taken) = read(&c, rule) {
@@ -103,7 +103,7 @@ pub fn find_first<'a>(comments: &'a Comments<'a>, rule: Rule) -> Option<Taken<'a
 // And in the last of them.
 #[tactic(auto, using(crate::proofs::Turns::last_placed, crate::proofs::Turns::turn_back), unfolding(crate::specs::Readings::first_of))]
 pub fn find_last<'a>(comments: &'a Comments<'a>, rule: Rule) -> Option<Taken<'a>>
-    ensures { result ≡ last_of (taken_by rule comments.now.source) comments.now.comments }
+    ensures { taken_as result ≡ last_of (taken_by rule comments.now.source) comments.now.comments }
 {
     for c in comments.iter().rev() {
         if let Some(taken) = read(&c, rule) {
@@ -120,7 +120,7 @@ pub fn first_reading<'a>(
     comments: &'a Comments<'a>,
     rule: Rule,
 ) -> Option<Taken<'a>>
-    ensures { result ≡ first_of (taken_by rule comments.now.source)
+    ensures { taken_as result ≡ first_of (taken_by rule comments.now.source)
         (given_to (asked rule) media comments.now.comments) }
 {
     if rule.asks(media) {
@@ -140,7 +140,7 @@ pub fn last_comment<'a>(comments: &'a Comments<'a>) -> Option<PlacedComment<'a>>
 // Writes a reading as an optional.
 #[tactic(auto, using(report::proofs::Buffers::more_cons), unfolding(wire::specs::Optional::encode_optional))]
 pub fn put_reading(reading: Option<Taken>, w: &mut Writer)
-    ensures { Wrote w.old w.new (encode_optional encode_specifier (option_map specifier_as reading.entry)) }
+    ensures { Wrote w.old w.new (encode_optional encode_specifier (option_map specifier_as (taken_as reading.entry))) }
 {
     w.put_flag(reading.is_some());
     if let Some(taken) = reading {

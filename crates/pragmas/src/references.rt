@@ -6,7 +6,7 @@ ghost use Rattle.analysis.specs.Patterns.{resolution_mode_row};
 ghost use Rattle.report.specs.Encode.{encode_list, encode_reference};
 ghost use Rattle.report.specs.Buffer.{Wrote};
 ghost use Rattle.pragmas.specs.Pragmas.{mode_by, reference, references_in};
-ghost use Rattle.pragmas.specs.code.Views.{reference_as, encode_any};
+ghost use Rattle.pragmas.specs.code.Views.{reference_as, ReferenceIn, encode_any};
 
 use super::taken::Taken;
 use analysis::mode::{TypeScriptTypesResolutionMode, from_str, mode_number};
@@ -20,7 +20,7 @@ use sheet::commented::{Comments, PlacedComment};
 use sheet::names::is_block;
 
 // A reference of a comment: what is captured there, and of a types reference the mode.
-#[derive(Drop)]
+#[derive(Clone, Copy)]
 pub enum Reference<'a> {
     Path(Taken<'a>),
     Types(Taken<'a>, Option<TypeScriptTypesResolutionMode>),
@@ -37,7 +37,8 @@ fn resolution_mode(body: &[u8]) -> Option<TypeScriptTypesResolutionMode>
 // The reference of a comment.
 #[tactic(auto, unfolding(crate::specs::Readings::read_by, crate::specs::Pragmas::mode_in, crate::specs::Pragmas::reference))]
 pub fn read_reference<'a>(c: &PlacedComment<'a>) -> Option<Reference<'a>>
-    ensures { option_map reference_as result ≡ reference c.now.source c.now.comment }
+    ensures value { option_map reference_as result ≡ reference c.now.source c.now.comment }
+    ensures inside { ReferenceIn c.now.source c.now.comment result }
 {
     if is_block(c.comment().kind) {
         return None;

@@ -8,15 +8,14 @@ ghost use Rattle.report.specs.Encode.{encode_specifier};
 ghost use Rattle.report.specs.Buffer.{Wrote};
 ghost use Rattle.report.specs.Range.{InSource};
 ghost use Rattle.pragmas.specs.Readings.{place_in};
-ghost use Rattle.pragmas.specs.code.Captured.{Captured, CaptureIn, place_as, specifier_as};
+ghost use Rattle.pragmas.specs.code.Captured.{CaptureIn, place_as, specifier_as};
 
 use analysis::{Capture, place_of, specifier};
 use report::writer::Writer;
-use sheet::commented::PlacedComment;
+use sheet::commented::{Comments, PlacedComment};
 use sheet::comments::Comment;
 use sheet::fields::Span;
 use sheet::lookups::body_span;
-use std::marker::Model;
 use text::position::Position;
 
 // Where a capture in a comment stands in the source, with its marks.
@@ -34,41 +33,38 @@ pub fn comment_source_to_span(c: Comment, found: Capture) -> Span
 }
 
 // What is captured in the body of a comment of a source.
-#[derive(Drop)]
+#[derive(Clone, Copy)]
 pub struct Taken<'a> {
-    comment: PlacedComment<'a>,
+    comments: &'a Comments<'a>,
+    comment: Comment,
     capture: Capture,
-}
-
-impl<'a> Model for Taken<'a> {
-    ghost Value = { Captured };
-
-    ghost view = { λ t. record { source = t.comment.source; comment = t.comment.comment; capture = t.capture } };
-
-    ghost invariant = { λ t. CaptureIn t.comment.source t.comment.comment t.capture };
+    ghost inside: { CaptureIn comments.now.source comment capture },
 }
 
 impl<'a> Taken<'a> {
+    ghost use Rattle.pragmas.specs.code.Views.{captured_as};
+
     pub fn new(c: &PlacedComment<'a>, capture: Capture) -> Taken<'a>
         requires { Inside capture (length (body c.now.source c.now.comment)) }
-        ensures { result ≡ record { source = c.now.source; comment = c.now.comment; capture = capture } }
+        ensures { captured_as result ≡ record { source = c.now.source; comment = c.now.comment; capture = capture } }
     {
         Taken {
-            comment: PlacedComment::new(c.comments(), c.comment()),
+            comments: c.comments(),
+            comment: c.comment(),
             capture,
         }
     }
 
-    pub fn comment(&self) -> &PlacedComment<'a>
-        ensures { result.now ≡ record { source = self.now.source; comment = self.now.comment } }
+    pub fn comment(&self) -> PlacedComment<'a>
+        ensures { result ≡ record { source = (captured_as self.now).source; comment = (captured_as self.now).comment } }
     {
-        &self.comment
+        PlacedComment::new(self.comments, self.comment)
     }
 
     pub fn capture(&self) -> Capture
         ensures { Bounded
-            (result ≡ self.now.capture)
-            (CaptureIn self.now.source self.now.comment result) }
+            (result ≡ (captured_as self.now).capture)
+            (CaptureIn (captured_as self.now).source (captured_as self.now).comment result) }
     {
         self.capture
     }
@@ -76,27 +72,27 @@ impl<'a> Taken<'a> {
     // Its place in the source: what is captured, with its marks.
     #[tactic(auto, using(crate::proofs::Captures::capture_within, sheet::proofs::Marks::holds_marks_lem, sheet::proofs::Bodies::placed_body))]
     pub fn place(&self) -> Span
-        ensures { Bounded (result ≡ place_as self.now) (InSource self.now.source result) }
+        ensures { Bounded (result ≡ place_as (captured_as self.now)) (InSource (captured_as self.now).source result) }
     {
-        comment_source_to_span(self.comment.comment(), self.capture)
+        comment_source_to_span(self.comment, self.capture)
     }
 
     // The positions of its place.
     pub fn positions(&self) -> (Position, Position)
-        ensures { (result.0 ≡ position_of characters self.now.source (place_as self.now).start)
-            × (result.1 ≡ position_of characters self.now.source (place_as self.now).end) }
+        ensures { (result.0 ≡ position_of characters (captured_as self.now).source (place_as (captured_as self.now)).start)
+            × (result.1 ≡ position_of characters (captured_as self.now).source (place_as (captured_as self.now)).end) }
     {
         let place = self.place();
-        self.comment.comments().positions(place)
+        self.comments.positions(place)
     }
 
     // Writes the specifier.
     #[tactic(auto, unfolding(crate::specs::Readings::specifier_in))]
     pub fn put(&self, w: &mut Writer)
-        ensures { Wrote w.old w.new (encode_specifier (specifier_as self.now)) }
+        ensures { Wrote w.old w.new (encode_specifier (specifier_as (captured_as self.now))) }
     {
         let place = self.place();
-        let text = specifier(self.comment.body(), self.capture);
-        w.put_specifier(text, self.comment.comments(), place);
+        let text = specifier(self.comment().body(), self.capture);
+        w.put_specifier(text, self.comments, place);
     }
 }

@@ -1,12 +1,12 @@
 -- Writing into a buffer part by part: a byte has room or not, parts one after the other are written as one, and no byte changes nothing.
-use Rattle.laws.proofs.Prelude.{◌≡◌, refl, sym, ◌∙◌, Bool, true, false, cond, List, [], ◌∷◌, ◌++◌, append_assoc, append-nil, ℕ, ◌+◌, ◌≤◌, ◌<◌, add-one, arith}
-use Rattle.laws.proofs.Prelude.{Option, leb, length, take, drop, set, length-append, length-drop, length-take, length-set, length-take-le, take_all, leb-false}
+use Rattle.laws.proofs.Prelude.{◌≡◌, refl, sym, ◌∙◌, Bool, true, false, cond, List, [], ◌∷◌, ◌++◌, append_assoc, append-nil, ℕ, suc, ◌+◌, ◌≤◌, ◌<◌}
+use Rattle.laws.proofs.Prelude.{add-one, arith}
+use Rattle.laws.proofs.Prelude.{Option, leb, length, get_or, take, drop, drop-cons, drop_of_length-le, set, length-append, length-take, length-set}
+use Rattle.laws.proofs.Prelude.{length-take-le, take_all, leb-false}
 use Rattle.laws.proofs.Prelude.{le-leb, lt-leb}
 use Rattle.std.specs.Prelude.{None, Some}
 use native.Mathlib.Nat.{add_assoc}
 use lib.Seq.{take-suc-set}
-use borrow.Rule.Slice.PartMut.{put_mid}
-use Rattle.std.proofs.lemmas.Slice.{take-put_mid}
 use Rattle.report.specs.declared.writer.Writer.{Writer}
 use Rattle.report.specs.Buffer.{Buffer, holds, full, wrote, buffer_as, Written, written_as, more, Wrote, Keeps}
 
@@ -38,28 +38,6 @@ module _ (out : List ℕ) (at : ℕ) where
   unfolding wrote
   put_none b h = rw (take_all at out h, lt-leb (length out + 1) (length out) (omega arith))
 
-  pub bytes_room : (s : List ℕ) → at + length s ≤ length out →
-      buffer_as (put_mid at (length s) out s) (Some (at + length s)) ≡ wrote (buffer_as out (Some at)) s
-  unfolding wrote
-  bytes_room s h =
-      let front : take (at + length s) (put_mid at (length s) out s) ≡ take at out ++ s = take-put_mid at (length s) out s (at + length s) refl (omega arith) in
-      let size : length (put_mid at (length s) out s) ≡ length out =
-      omega (
-        arith,
-        length-append (take at out) (s ++ drop (length s) (drop at out)),
-        length-append s (drop (length s) (drop at out)),
-        length-take-le at out (omega arith),
-        length-drop (length s) (drop at out),
-        length-drop at out,
-      ) in
-      rw (size, front, length-take-le at out (omega arith), le-leb (at + length s) (length out) h)
-
-  pub bytes_none : (s : List ℕ) → 0 < length s → length out < at + length s → full (length out) ≡ wrote (buffer_as out (Some at)) s
-  unfolding wrote
-  bytes_none s some h =
-      let long : length out < length (take at out) + length s = omega (arith, length-take at out) in
-      rw (lt-leb (length (take at out) + length s) (length out) long)
-
 -- nothing is written once the buffer is full
 pub full_stays : (out bs : List ℕ) → full (length out) ≡ wrote (buffer_as out None) bs
 unfolding wrote
@@ -86,8 +64,15 @@ more_nil w = λ i. record { loan = w.out.ghost_name; buffer = wrote_nil w.out.no
 pub wrote_none : (w : Writer) → Wrote w w []
 wrote_none w = sym (more_nil w)
 
--- a byte, or bytes, written where there is room or none
-pub ruleset room = (wrote_here, wrote_none, put_room, put_none, bytes_room, bytes_none, full_stays)
+-- what is left of some bytes is written by the next of them and what is left then
+pub bytes_on : (w : Written) (s : List ℕ) (i : ℕ) → i < length s → more w (drop i s) ≡ more (more w (get_or s i 0 ∷ [])) (drop (i + 1) s)
+bytes_on w s i l = rw (drop-cons s i 0 l, add-one) (more_cons w (get_or s i 0) (drop (suc i) s))
+
+pub bytes_end : (w : Writer) (s : List ℕ) (i : ℕ) → length s ≤ i → more (written_as w) (drop i s) ≡ written_as w
+bytes_end w s i l = rw (drop_of_length-le s l) (more_nil w)
+
+-- a byte written where there is room or none
+pub ruleset room = (wrote_here, wrote_none, put_room, put_none, full_stays)
 
 -- what is written part by part
 pub ruleset parts = (more_append, more_cons, more_nil)

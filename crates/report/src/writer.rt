@@ -70,20 +70,13 @@ impl<'a> Writer<'a> {
         }
     }
 
-    // Writes bytes.
-    #[tactic(auto, using(crate::proofs::Buffers::room, std::proofs::lemmas::List::nil_from_length))]
+    // Writes bytes, one after the other: to copy a slice at once takes `memmove`, which no archive for C asks for.
+    #[tactic(auto, using(crate::proofs::Buffers::bytes_on, crate::proofs::Buffers::bytes_end))]
     pub fn put_bytes(&mut self, s: &[u8])
         ensures { Wrote self.old self.new s.now }
     {
-        let Some(at) = self.at else {
-            return;
-        };
-        let room = self.out.len().saturating_sub(at);
-        if room < s.len() {
-            self.at = None;
-        } else if 0 < s.len() {
-            self.out[at..at + s.len()].copy_from_slice(s);
-            self.at = Some(at + s.len());
+        for b in s {
+            self.put(*b);
         }
     }
 
@@ -101,6 +94,10 @@ impl<'a> Writer<'a> {
     fn put_lossy(&mut self, s: &[u8]) -> usize
         ensures { Replacing (Wrote self.old self.new (lossy s.now)) (result ≡ replaced s.now) }
     {
+        if text::bytes::next_of(s, 0, 0xED).is_none() {
+            self.put_bytes(s);
+            return 0;
+        }
         let mut i = 0;
         let mut count = 0;
         while i < s.len() {

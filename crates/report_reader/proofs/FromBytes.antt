@@ -10,7 +10,7 @@ use Rattle.wire.specs.Number.{largest, number, encode_groups, encode_number}
 use Rattle.report.specs.declared.names.ArgumentKind.TheVariants as arguments
 use Rattle.report.specs.ModuleInfo.{DynamicTemplatePart, DynamicArgument, expr, string, template}
 use Rattle.report.specs.{code.Kinds.argument_kinds, Encode.encode_list, Encode.encode_argument, Valid.Short}
-use Rattle.report_reader.specs.code.FromFront.{ReadsBack, Skips, Number, Flag}
+use Rattle.report_reader.specs.code.FromFront.{ReadsBack, Skips, EndOf, Number, Flag}
 
 -- a number, as the wire's reader answers it
 module _ (s : List ℕ) where
@@ -18,19 +18,21 @@ module _ (s : List ℕ) where
   number_read {value} {next} q =
       record {
         small = (number_codec.sound s value next q).1;
+        rest = record { front = encode_number value; among = (number_codec.sound s value next q).0 };
         read = λ n v t e.
             let same : ok value next ≡ ok n t = sym q ∙ ap number e ∙ number_codec.complete n v t in
             (cc, cc);
       }
 
-  number_refused : {r value : ℕ} {next : List ℕ} → value ≤ largest → number s ≡ no r → Number s value next
-  number_refused small q = record { small = small; read = λ n v t e. absurd (refused (sym q ∙ ap number e ∙ number_codec.complete n v t)) }
+  number_refused : {r value : ℕ} {next : List ℕ} → value ≤ largest → EndOf next s → number s ≡ no r → Number s value next
+  number_refused small rest q =
+      record { small = small; rest = rest; read = λ n v t e. absurd (refused (sym q ∙ ap number e ∙ number_codec.complete n v t)) }
 
   -- or what stands for it
-  pub number_or : (r : ReadResult ℕ) (d : ℕ × Bor (List ℕ)) → read_as r ≡ number s → d.0 ≤ largest →
+  pub number_or : (r : ReadResult ℕ) (d : ℕ × Bor (List ℕ)) → read_as r ≡ number s → d.0 ≤ largest → EndOf d.1.now s →
       {v : ℕ × Bor (List ℕ)} → v ≡ result_unwrap_or r d → Number s v.0 v.1.now
-  number_or (Ok p) d q small is = rw is (number_read (sym q))
-  number_or (Err e) d q small is = rw is (number_refused small (sym q))
+  number_or (Ok p) d q small rest is = rw is (number_read (sym q))
+  number_or (Err e) d q small rest is = rw is (number_refused small rest (sym q))
 
 -- what is read by a number first
 module _ {s : List ℕ} {value : ℕ} {next : List ℕ} (number : Number s value next) where

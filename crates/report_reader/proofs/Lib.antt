@@ -1,3 +1,4 @@
 pub mod FromBytes
 pub mod KindsTold
 pub mod Lists
+pub mod Parts

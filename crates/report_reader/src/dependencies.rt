@@ -1,7 +1,8 @@
 // The reading of a report's dependencies.
+ghost use Rattle.std.specs.Prelude.{IfSome};
 ghost use Rattle.report.specs.Encode.{encode_argument};
 ghost use Rattle.report.specs.Valid.{ValidArgument};
-ghost use Rattle.report_reader.specs.code.FromFront.{Skips};
+ghost use Rattle.report_reader.specs.code.FromFront.{Skips, EndOf, PartOf};
 ghost use Rattle.report_reader.specs.code.Dependencies.{ReadsDependency};
 
 use super::fields::{
@@ -18,8 +19,10 @@ pub struct StaticRead<'a> {
 }
 
 // Skips the argument of a dynamic dependency.
+#[tactic(auto, using(crate::proofs::Parts::ends))]
 fn skip_argument(s: &[u8]) -> &[u8]
-    ensures { Skips encode_argument ValidArgument s.now result.now }
+    ensures answer { Skips encode_argument ValidArgument s.now result.now }
+    ensures rest { EndOf result.now s.now }
 {
     let (kind, next) = read_number(s);
     match ArgumentKind::from(kind) {
@@ -31,7 +34,9 @@ fn skip_argument(s: &[u8]) -> &[u8]
 
 // A dependency, of which only a static one is told.
 pub fn read_dependency(s: &[u8]) -> (Option<StaticRead<'_>>, &[u8])
-    ensures { ReadsDependency s.now result }
+    ensures answer { ReadsDependency s.now result }
+    ensures part { IfSome result.0 (λ d. PartOf d.specifier.now s.now) }
+    ensures rest { EndOf result.1.now s.now }
 {
     let (kind, next) = read_number(s);
     let next = skip_optional::<Specifier>(next);

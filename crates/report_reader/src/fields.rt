@@ -1,9 +1,8 @@
-// The reading of a report's fields from the front of some bytes: what is read, and the bytes behind it. Nothing is said of what is read where no such
-// field stands.
-ghost use Rattle.std.specs.Prelude.{◌≡◌, List, ℕ, length};
+// The reading of a report's fields from the front of some bytes: what is read, and the bytes behind it. Where no such field stands it is said only that
+// a text is a part of the bytes, and that what is left is their end.
+ghost use Rattle.std.specs.Prelude.{◌≡◌, List, ◌++◌, ℕ, length};
 ghost use mathlib.Core.List.{flat_map};
 ghost use Rattle.laws.specs.Codec.{IfThere, All};
-ghost use Rattle.laws.specs.code.Told.{Bounded};
 ghost use Rattle.wire.specs.Text.{encode_text};
 ghost use Rattle.wire.specs.Optional.{encode_optional};
 ghost use Rattle.report.specs.ModuleInfo.{SpecifierWithRange, KeyValue, DynamicTemplatePart};
@@ -11,7 +10,7 @@ ghost use Rattle.report.specs.Encode.{encode_list, encode_position, encode_range
 ghost use Rattle.report.specs.Encode.{encode_key_value, encode_attributes};
 ghost use Rattle.report.specs.Valid.{Short, ValidPosition, ValidRange, ValidSpecifier};
 ghost use Rattle.report.specs.Valid.{ValidKeyValue, ValidAttributes};
-ghost use Rattle.report_reader.specs.code.FromFront.{ReadsBack, Skips, Number, Flag};
+ghost use Rattle.report_reader.specs.code.FromFront.{ReadsBack, Skips, EndOf, Number, Flag};
 
 use report::names::AttributesKind;
 use text::position::Position;
@@ -36,7 +35,8 @@ pub fn read_number(s: &[u8]) -> (usize, &[u8])
 // A flag: a byte, 0 or 1.
 #[tactic(auto, using(crate::proofs::FromBytes::flag_told))]
 pub fn read_flag(s: &[u8]) -> (bool, &[u8])
-    ensures { Flag s.now result.0 result.1.now }
+    ensures answer { Flag s.now result.0 result.1.now }
+    ensures rest { EndOf result.1.now s.now }
 {
     let (byte, next) = read_number(s);
     (byte != 0, next)
@@ -44,18 +44,19 @@ pub fn read_flag(s: &[u8]) -> (bool, &[u8])
 
 // A text: a number, and as many bytes.
 pub fn read_text(s: &[u8]) -> (&[u8], &[u8])
-    ensures { ReadsBack encode_text Short s.now result.0.now result.1.now }
+    ensures answer { ReadsBack encode_text Short s.now result.0.now result.1.now }
+    ensures rest { EndOf (result.0.now ++ result.1.now) s.now }
 {
     let (n, next) = read_number(s);
     next.split_at_checked(n).unwrap_or((&[], next))
 }
 
 // A position: its line and its column.
-#[tactic(auto, unfolding(report::specs::Encode::encode_position))]
+#[tactic(auto, using(crate::proofs::Parts::ends), unfolding(report::specs::Encode::encode_position))]
 fn read_position(s: &[u8]) -> (Position, &[u8])
-    ensures { Bounded
-        (ReadsBack encode_position ValidPosition s.now result.0 result.1.now)
-        (ValidPosition result.0) }
+    ensures answer { ReadsBack encode_position ValidPosition s.now result.0 result.1.now }
+    ensures bounds { ValidPosition result.0 }
+    ensures rest { EndOf result.1.now s.now }
 {
     let (line, next) = read_number(s);
     let (column, next) = read_number(next);
@@ -63,9 +64,10 @@ fn read_position(s: &[u8]) -> (Position, &[u8])
 }
 
 // A range: the positions of its start and its end.
-#[tactic(auto, unfolding(report::specs::Encode::encode_range))]
+#[tactic(auto, using(crate::proofs::Parts::ends), unfolding(report::specs::Encode::encode_range))]
 pub fn read_range(s: &[u8]) -> (PositionRange, &[u8])
-    ensures { ReadsBack encode_range ValidRange s.now (record { start = result.0.start; end = result.0.end }) result.1.now }
+    ensures answer { ReadsBack encode_range ValidRange s.now (record { start = result.0.start; end = result.0.end }) result.1.now }
+    ensures rest { EndOf result.1.now s.now }
 {
     let (start, next) = read_position(s);
     let (end, next) = read_position(next);
@@ -81,7 +83,8 @@ pub trait Element {
     ghost Valid: { Item → Type 0 };
 
     fn skip(s: &[u8]) -> &[u8]
-        ensures { Skips encode Valid s.now result.now };
+        ensures answer { Skips encode Valid s.now result.now }
+        ensures rest { EndOf result.now s.now };
 }
 
 pub struct Text;
@@ -93,6 +96,7 @@ impl Element for Text {
 
     ghost Valid = { Short };
 
+    #[tactic(auto, using(crate::proofs::Parts::ends))]
     fn skip(s: &[u8]) -> &[u8] {
         let (_, next) = read_text(s);
         next
@@ -109,7 +113,7 @@ impl Element for Specifier {
 
     ghost Valid = { ValidSpecifier };
 
-    #[tactic(auto, unfolding(report::specs::Encode::encode_specifier))]
+    #[tactic(auto, using(crate::proofs::Parts::ends), unfolding(report::specs::Encode::encode_specifier))]
     fn skip(s: &[u8]) -> &[u8] {
         let (_, next) = read_text(s);
         let (_, next) = read_range(next);
@@ -127,7 +131,7 @@ impl Element for Attribute {
 
     ghost Valid = { ValidKeyValue };
 
-    #[tactic(auto, unfolding(report::specs::Encode::encode_key_value))]
+    #[tactic(auto, using(crate::proofs::Parts::ends), unfolding(report::specs::Encode::encode_key_value))]
     fn skip(s: &[u8]) -> &[u8] {
         let (_, next) = read_text(s);
         skip_optional::<Text>(next)
@@ -150,16 +154,20 @@ impl Element for TemplatePart {
 }
 
 // Skips an element if it is there.
+#[tactic(auto, using(crate::proofs::Parts::ends))]
 pub fn skip_optional<E: Element>(s: &[u8]) -> &[u8]
-    ensures { Skips (encode_optional E.encode) (IfThere E.Valid) s.now result.now }
+    ensures answer { Skips (encode_optional E.encode) (IfThere E.Valid) s.now result.now }
+    ensures rest { EndOf result.now s.now }
 {
     let (flag, next) = read_flag(s);
     if flag { E::skip(next) } else { next }
 }
 
 // Skips so many elements.
+#[tactic(auto, using(crate::proofs::Parts::end_whole))]
 fn skip_elements<E: Element>(s: &[u8], count: usize) -> &[u8]
-    ensures { Skips (flat_map E.encode) (λ l. (length l ≡ count) × All E.Valid l) s.now result.now }
+    ensures answer { Skips (flat_map E.encode) (λ l. (length l ≡ count) × All E.Valid l) s.now result.now }
+    ensures rest { EndOf result.now s.now }
 {
     let mut next = s;
     for _ in 0..count {
@@ -169,16 +177,19 @@ fn skip_elements<E: Element>(s: &[u8], count: usize) -> &[u8]
 }
 
 // Skips a list.
-#[tactic(auto, unfolding(report::specs::Encode::encode_list))]
+#[tactic(auto, using(crate::proofs::Parts::ends), unfolding(report::specs::Encode::encode_list))]
 pub fn skip_list<E: Element>(s: &[u8]) -> &[u8]
-    ensures { Skips (encode_list E.encode) (λ l. Short l × All E.Valid l) s.now result.now }
+    ensures answer { Skips (encode_list E.encode) (λ l. Short l × All E.Valid l) s.now result.now }
+    ensures rest { EndOf result.now s.now }
 {
     let (count, next) = read_number(s);
     skip_elements::<E>(next, count)
 }
 
+#[tactic(auto, using(crate::proofs::Parts::ends))]
 pub fn skip_attributes(s: &[u8]) -> &[u8]
-    ensures { Skips encode_attributes ValidAttributes s.now result.now }
+    ensures answer { Skips encode_attributes ValidAttributes s.now result.now }
+    ensures rest { EndOf result.now s.now }
 {
     let (kind, next) = read_number(s);
     match AttributesKind::from(kind) {

@@ -10,6 +10,7 @@ ghost use Rattle.report.specs.Answer.{outcome_as, fitted};
 ghost use Rattle.dep.specs.Collect.{starts_of};
 ghost use Rattle.module_info.specs.Information.{module_info, default_info};
 ghost use Rattle.module_info.specs.Replaced.{noted, notes_with};
+ghost use Rattle.module_info.specs.code.Views.{accepted_as};
 ghost use Rattle.module_info.specs.code.Pieces.{commented};
 ghost use Rattle.rules.specs.code.Pieces.{comment_origins, types_bytes};
 ghost use Rattle.rules.specs.code.Rows.{starts_in};
@@ -40,8 +41,8 @@ const NOTE_NUMBERS: usize = 1 + 2 * ENTRY_LIMIT;
 
 // The rows in the notes of an accepted sheet, one for each dependency.
 fn rows_in<'a>(accepted: &Accepted, notes: &'a [usize; NOTE_NUMBERS]) -> &'a [[usize; 2]]
-    ensures { notes.now ≡ notes_with (length notes.now) (noted accepted.now.sheet) 0
-        → starts_in result.now ≡ starts_of (noted accepted.now.sheet) }
+    ensures { notes.now ≡ notes_with (length notes.now) (noted (accepted_as accepted.now).sheet) 0
+        → starts_in result.now ≡ starts_of (noted (accepted_as accepted.now).sheet) }
 {
     let (rows, _) = notes[1..].as_chunks::<2>();
     &rows[..accepted.parts().tree.entries]
@@ -50,7 +51,7 @@ fn rows_in<'a>(accepted: &Accepted, notes: &'a [usize; NOTE_NUMBERS]) -> &'a [[u
 // Writes the origins of types, dependency by dependency, by where the node of each starts.
 #[tactic(auto, using(crate::proofs::Origins::types_next, crate::proofs::Origins::types_end))]
 fn put_types_rules(accepted: &Accepted, rows: &[[usize; 2]], w: &mut Writer)
-    ensures { Wrote w.old w.new (types_bytes (commented accepted.now.sheet) (starts_in rows.now)) }
+    ensures { Wrote w.old w.new (types_bytes (commented (accepted_as accepted.now).sheet) (starts_in rows.now)) }
 {
     let comments = accepted.comments();
     for [start, _] in rows {
@@ -58,10 +59,11 @@ fn put_types_rules(accepted: &Accepted, rows: &[[usize; 2]], w: &mut Writer)
     }
 }
 
-// Writes those of what the head group gives, of the JSDoc imports and of the source map.
+// Writes those of what the head group gives, of the JSDoc imports and of the source map. Never inlined, so that its table is cleared once.
+#[inline(never)]
 #[tactic(auto, using(report::proofs::Buffers::more_append, laws::proofs::Lists::flat_map_append), unfolding(crate::specs::code::Pieces::comment_origins))]
 fn put_comment_rules(accepted: &Accepted, w: &mut Writer)
-    ensures { Wrote w.old w.new (flat_map encode_origin (comment_origins accepted.now.sheet)) }
+    ensures { Wrote w.old w.new (flat_map encode_origin (comment_origins (accepted_as accepted.now).sheet)) }
 {
     let media = accepted.parts().front.media;
     put_head_origins(media, &accepted.head_comments(), w);
@@ -73,8 +75,8 @@ fn put_comment_rules(accepted: &Accepted, w: &mut Writer)
 // Writes the rules of an accepted sheet, with the starts of its dependencies' nodes in the rows.
 #[tactic(auto, using(crate::proofs::Origins::rules_written))]
 fn put_rules(accepted: &Accepted, rows: &[[usize; 2]], w: &mut Writer)
-    ensures { starts_in rows.now ≡ starts_of (noted accepted.now.sheet)
-        → Wrote w.old w.new (rules_of accepted.now.sheet) }
+    ensures { starts_in rows.now ≡ starts_of (noted (accepted_as accepted.now).sheet)
+        → Wrote w.old w.new (rules_of (accepted_as accepted.now).sheet) }
 {
     put_types_rules(accepted, rows, w);
     put_comment_rules(accepted, w);
@@ -92,11 +94,12 @@ fn finish_rules(report: usize, rules: Outcome) -> Ruled
     }
 }
 
-// The report of an accepted sheet, and its rules.
+// The report of an accepted sheet, and its rules. Never inlined, so that its notes are cleared once.
+#[inline(never)]
 fn write_ruled_report(accepted: &Accepted, buffer: &mut [u8], rules: &mut [u8]) -> Ruled
     ensures { cleared_as result buffer.new rules.new
         ≡ both_fitted (length buffer.old) (length rules.old)
-        (encode (module_info accepted.now.sheet)) (rules_of accepted.now.sheet) }
+        (encode (module_info (accepted_as accepted.now).sheet)) (rules_of (accepted_as accepted.now).sheet) }
 {
     let mut notes = [0usize; NOTE_NUMBERS];
     let report = write_noted_report(accepted, buffer, &mut notes)?;

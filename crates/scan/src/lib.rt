@@ -9,18 +9,18 @@ ghost use Rattle.scan.specs.Answers.{Counted, packed};
 pub const LONGEST: usize = 32764;
 
 // How far a scan goes over what is left of a body; `behind` is how far it goes from the next byte on.
-#[tactic(auto, using(crate::proofs::Steps::lengths, text::proofs::Words::begins_is))]
+#[tactic(auto, using(crate::proofs::Steps::lengths))]
 fn length_of(rest: &[u8], behind: u64) -> u64
     requires { (0 < length rest.now) × (behind ≡ scan_length (drop 1 rest.now)) }
     ensures { result ≡ scan_length rest.now }
 {
-    if rest[0] == b'}' || rest.starts_with(b"import") {
-        return 0;
+    match rest {
+        [b'}', ..] | [b'i', b'm', b'p', b'o', b'r', b't', ..] => 0,
+        _ => behind + 1,
     }
-    behind + 1
 }
 
-// The scan sum, in one pass from the right: `ahead` is how far a scan goes from `i` on.
+// The scan sum, in one pass from the right: `ahead` is how far a scan goes over the last `counted` bytes.
 #[tactic(auto, using(crate::proofs::Bounds::sums))]
 fn sum_of(body: &[u8]) -> u64
     requires { length body.now ≤ longest }
@@ -28,7 +28,8 @@ fn sum_of(body: &[u8]) -> u64
 {
     let mut sum: u64 = 0;
     let mut ahead: u64 = 0;
-    for i in (0..body.len()).rev() {
+    for counted in 0..body.len() {
+        let i = body.len() - counted - 1;
         if body[i] == b'{' {
             sum += ahead;
         }

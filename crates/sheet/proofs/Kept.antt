@@ -25,7 +25,7 @@ module _ {P : (A : Type 0) → Decoder A → Type 0} (h : OfFields P) where
   a_number_lem : P ℕ number
   a_number_lem = number_kept kept two a_byte
 
-  chained_kept : {A S : Type 0} {item : S → Decoder A} (leaves : A → S) → ((s : S) → P A (item s)) → (s : S) (k : ℕ) → P (List A) (chained item leaves s k)
+  pub chained_kept : {A S : Type 0} {item : S → Decoder A} (leaves : A → S) → ((s : S) → P A (item s)) → (s : S) (k : ℕ) → P (List A) (chained item leaves s k)
   unfolding chained
   chained_kept leaves p s zero = ends []
   chained_kept leaves p s (suc k) = then (p s) (λ a. changed (a ∷◌) (chained_kept leaves p (leaves a) k))
@@ -43,19 +43,19 @@ module _ {P : (A : Type 0) → Decoder A → Type 0} (h : OfFields P) where
     unfolding span
     span_kept = then position_kept (λ start. then (end_kept start) (λ p. ends _))
 
-    comment_kept : (last : ℕ) → P Comment (comment source last)
+    pub comment_kept : (last : ℕ) → P Comment (comment source last)
     unfolding comment
     comment_kept last =
         then (numbered_kept h comment_kinds) (λ kind. then position_kept (λ start. test kept (leb last start) seven (then (end_kept start) (λ p.
         test kept (marked kind (slice source (record { start = start; end = p }))) seven (ends _)))))
 
-    group_kept : (total : ℕ) (after : Side → ℕ → Bool) → P Group (group source total after)
+    pub group_kept : (total : ℕ) (after : Side → ℕ → Bool) → P Group (group source total after)
     unfolding group
     group_kept total after =
         then (numbered_kept h sides) (λ side. then position_kept (λ p. test kept (after side p) seven (then a_number_lem (λ first. then a_number_lem (λ n.
         test kept (ltb 0 n && leb (first + n) total) seven (ends _))))))
 
-    program_kept : P Program (program source)
+    pub program_kept : P Program (program source)
     unfolding program
     program_kept = then (flag_kept h) (λ script. then span_kept (λ sp. then (flag_kept h) (λ shebang. then (optional_kept h position_kept) (λ first. ends _))))
 

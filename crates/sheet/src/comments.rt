@@ -57,6 +57,7 @@ impl From<CommentRow> for Comment {
 
 // Does the text begin with one mark and end with the other, and is it no shorter than the two?
 #[tactic(auto, using(text::proofs::Words::begins_is, crate::proofs::Marks::ends_is), unfolding(crate::specs::Comments::enclosed))]
+#[inline(always)]
 fn is_enclosed(text: &[u8], front: &[u8], back: &[u8]) -> bool
     ensures { result ≡ enclosed front.now back.now text.now }
 {
@@ -75,13 +76,17 @@ pub(crate) fn marks(kind: CommentKind) -> (&'static [u8], &'static [u8])
     }
 }
 
-// Has the text the marks of its kind?
+// Has the text the marks of its kind? They stand here as constants, which are compared at once; those of `marks` would each take a call.
 #[tactic(auto, unfolding(crate::specs::Comments::marked))]
 fn is_marked(text: &[u8], kind: CommentKind) -> bool
     ensures { result ≡ marked kind text.now }
 {
-    let (front, back) = marks(kind);
-    is_enclosed(text, front, back)
+    match kind {
+        CommentKind::Line => is_enclosed(text, b"//", b""),
+        CommentKind::Block => is_enclosed(text, b"/*", b"*/"),
+        CommentKind::HtmlOpen => is_enclosed(text, b"<!--", b""),
+        CommentKind::HtmlClose => is_enclosed(text, b"-->", b""),
+    }
 }
 
 // A comment that starts no earlier than `last`, the end of the one before.

@@ -19,6 +19,7 @@ pub struct Span {
 
 // Is the place neither past the source nor inside a character?
 #[tactic(auto, unfolding(text::specs::Position::is_boundary))]
+#[inline(always)]
 fn is_boundary(source: &[u8], p: usize) -> bool
     ensures { result ≡ is_boundary source.now p }
 {
@@ -26,6 +27,7 @@ fn is_boundary(source: &[u8], p: usize) -> bool
 }
 
 #[tactic(auto, unfolding(crate::specs::Fields::position))]
+#[inline(always)]
 pub fn read_position<'a>(source: &[u8], s: &'a [u8]) -> ReadResult<'a, usize>
     ensures { Told read_as (position source.now s.now) (Past (length s.now)) result }
 {
@@ -39,6 +41,7 @@ pub fn read_position<'a>(source: &[u8], s: &'a [u8]) -> ReadResult<'a, usize>
 
 // A position that does not precede `start`.
 #[tactic(auto, unfolding(crate::specs::Fields::end_from))]
+#[inline(always)]
 pub fn read_end<'a>(source: &[u8], s: &'a [u8], start: usize) -> ReadResult<'a, usize>
     ensures { Told read_as (end_from source.now start s.now) (Past (length s.now)) result }
 {
@@ -51,6 +54,7 @@ pub fn read_end<'a>(source: &[u8], s: &'a [u8], start: usize) -> ReadResult<'a, 
 }
 
 #[tactic(auto, using(crate::proofs::CommentCodecs::span_part), unfolding(crate::specs::Fields::span))]
+#[inline(always)]
 pub fn read_span<'a>(source: &[u8], s: &'a [u8]) -> ReadResult<'a, Span>
     ensures { Told read_as (span source.now s.now) (PastSpan source.now (length s.now)) result }
 {

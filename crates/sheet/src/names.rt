@@ -1,5 +1,6 @@
 // The enums of a sheet, each by the numbers of its values.
 ghost use Rattle.std.specs.Prelude.{◌≡◌};
+ghost use Rattle.wire.specs.Fields.{value_of};
 ghost use Rattle.sheet.specs.Media.{is_java_script, is_jsx};
 ghost use Rattle.sheet.specs.Comments.{is_block};
 ghost use Rattle.sheet.specs.Names.{media_types, kind_number, comment_kinds, side_number, sides, import_phases};
@@ -43,6 +44,13 @@ impl TryFrom<usize> for MediaType {
             _ => Err(Refusal::Byte),
         }
     }
+}
+
+// The media type of a number; of any greater one, the last.
+pub fn media_type(n: usize) -> MediaType
+    ensures { result ≡ value_of media_types n }
+{
+    MediaType::try_from(n).unwrap_or(MediaType::Tsx)
 }
 
 // The opposite of the Rust's `is_typed`.
@@ -95,6 +103,13 @@ impl TryFrom<usize> for CommentKind {
     }
 }
 
+// The kind of a number; of any greater one, the last.
+pub fn comment_kind(n: usize) -> CommentKind
+    ensures { result ≡ value_of comment_kinds n }
+{
+    CommentKind::try_from(n).unwrap_or(CommentKind::HtmlClose)
+}
+
 pub fn is_block(kind: CommentKind) -> bool
     ensures { result ≡ is_block kind }
 {
@@ -131,6 +146,13 @@ impl TryFrom<usize> for Side {
     }
 }
 
+// The side of a number; of any greater one, the last.
+pub fn side_of(n: usize) -> Side
+    ensures { result ≡ value_of sides n }
+{
+    Side::try_from(n).unwrap_or(Side::Trailing)
+}
+
 #[derive(Clone, Copy)]
 pub enum ImportPhase {
     Evaluation,
@@ -151,4 +173,11 @@ impl TryFrom<usize> for ImportPhase {
             _ => Err(Refusal::Byte),
         }
     }
+}
+
+// The phase of a number; of any greater one, the last.
+pub fn import_phase(n: usize) -> ImportPhase
+    ensures { result ≡ value_of import_phases n }
+{
+    ImportPhase::try_from(n).unwrap_or(ImportPhase::Defer)
 }

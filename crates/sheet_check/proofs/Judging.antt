@@ -5,7 +5,7 @@ use Rattle.sheet.specs.{Limits.sheet_limit, Sheet.sized, Sheet.accept}
 use Rattle.sheet_check.specs.declared.front.Front as declared
 use Rattle.sheet_check.specs.{declared.tree.Tree.Tree, code.Pieces.front, code.Pieces.tree, code.Views.front_of, code.Views.FrontIn, code.Views.Stands}
 use Rattle.sheet_check.specs.{code.Accepts.Accepts}
-use Rattle.sheet_check.proofs.ByPieces.{whole, accept_by_pieces}
+use Rattle.sheet_check.proofs.{ByPieces.whole, ByPieces.accept_by_pieces, Endings.root_ends}
 
 pub too_many : (s : List ℕ) → sheet_limit < length s → accept s ≡ no 1
 too_many s h = rw (accept_by_pieces s, lt-leb (length s) sheet_limit h)
@@ -35,6 +35,7 @@ module _ (s : List ℕ) (few : length s ≤ sheet_limit) where
           few = inside.few;
           program = refl;
           root = stands.stands;
+          root_place = root_ends s u t.source.now e stands.before;
           entries = stands.gives;
           reaches = stands.reaches;
         }

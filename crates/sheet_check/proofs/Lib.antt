@@ -1,5 +1,6 @@
 pub mod ByPieces
 pub mod Source
+pub mod Endings
 pub mod Tables
 pub mod Trees
 pub mod Judging

@@ -78,6 +78,7 @@ pub enum Head<'a> {
     Module(Option<Quoted<'a>>, usize),
 }
 
+#[inline(always)]
 fn read_other(s: &[u8]) -> ReadResult<'_, Head<'_>>
     ensures { Told fields_as
         (on_ok other_head (number s.now))
@@ -87,6 +88,7 @@ fn read_other(s: &[u8]) -> ReadResult<'_, Head<'_>>
     Ok((Head::Other(n), next))
 }
 
+#[inline(always)]
 fn read_string<'a>(quotation: &[u8], s: &'a [u8]) -> ReadResult<'a, Head<'a>>
     ensures { Told fields_as
         (on_ok string_head (text_behind quotation.now s.now))
@@ -96,6 +98,7 @@ fn read_string<'a>(quotation: &[u8], s: &'a [u8]) -> ReadResult<'a, Head<'a>>
     Ok((Head::String(x), next))
 }
 
+#[inline(always)]
 fn read_name(s: &[u8]) -> ReadResult<'_, Head<'_>>
     ensures { Told fields_as
         (on_ok name_head (text Utf8 text_limit s.now))
@@ -106,6 +109,7 @@ fn read_name(s: &[u8]) -> ReadResult<'_, Head<'_>>
 }
 
 #[tactic(auto, using(crate::proofs::Counts::number_within))]
+#[inline(always)]
 fn read_template(s: &[u8]) -> ReadResult<'_, Head<'_>>
     ensures { Told fields_as
         (on_ok template_head (number s.now))
@@ -115,6 +119,7 @@ fn read_template(s: &[u8]) -> ReadResult<'_, Head<'_>>
     Ok((Head::Template(holes), next))
 }
 
+#[inline(always)]
 fn read_binary(s: &[u8]) -> ReadResult<'_, Head<'_>>
     ensures { Told fields_as
         (on_ok binary_head (flag s.now))
@@ -125,6 +130,7 @@ fn read_binary(s: &[u8]) -> ReadResult<'_, Head<'_>>
 }
 
 #[tactic(auto, using(crate::proofs::Counts::count_within))]
+#[inline(always)]
 fn read_object(s: &[u8]) -> ReadResult<'_, Head<'_>>
     ensures { Told fields_as
         (on_ok object_head (count property_limit s.now))
@@ -135,6 +141,7 @@ fn read_object(s: &[u8]) -> ReadResult<'_, Head<'_>>
 }
 
 #[tactic(auto, unfolding(crate::specs::code::Head::call_start))]
+#[inline(always)]
 fn read_call(s: &[u8]) -> ReadResult<'_, Head<'_>>
     ensures { Told fields_as
         (call_start s.now)
@@ -281,6 +288,7 @@ fn read_module<'a>(source: &[u8], s: &'a [u8], levels: usize) -> ReadResult<'a, 
 
 // The fields of a head, by the span and the tag, where so many levels are left below the node.
 #[tactic(auto, using(crate::proofs::Plain::plain_fields), unfolding(crate::specs::code::Head::start, sheet::specs::Nodes::text_behind))]
+#[inline(always)]
 fn read_fields<'a>(
     source: &[u8],
     s: &'a [u8],
@@ -312,6 +320,7 @@ fn read_fields<'a>(
 
 // The head of a node, with so many levels left, its own among them.
 #[tactic(auto, unfolding(crate::specs::code::Head::head))]
+#[inline(always)]
 pub fn read_head<'a>(source: &[u8], s: &'a [u8], levels: usize) -> ReadResult<'a, (Span, Head<'a>)>
     ensures { Told head_as
         (head source.now levels s.now)

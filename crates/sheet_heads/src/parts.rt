@@ -69,6 +69,7 @@ pub fn read_pieces(s: &[u8], count: usize) -> ReadResult<'_, bool>
 
 // An argument up to its node: is it spread, and its span.
 #[tactic(auto, unfolding(crate::specs::code::Parts::argument_head))]
+#[inline(always)]
 pub fn read_argument<'a>(source: &[u8], s: &'a [u8]) -> ReadResult<'a, (bool, Span)>
     ensures { Told read_as
         (argument_head source.now s.now)

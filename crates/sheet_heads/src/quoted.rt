@@ -63,6 +63,7 @@ pub struct Quoted<'a> {
 }
 
 // A tag that its place allows: is a level left for its node?
+#[inline(always)]
 fn judge_tag(s: &[u8], tag: Tag, levels: usize) -> ReadResult<'_, Tag>
     ensures { Told tag_as
         (judge_tag true levels (tag_number tag) s.now)
@@ -77,6 +78,7 @@ fn judge_tag(s: &[u8], tag: Tag, levels: usize) -> ReadResult<'_, Tag>
 
 // The tag of any node.
 #[tactic(auto, unfolding(sheet::specs::Nodes::tag))]
+#[inline(always)]
 pub fn read_tag(s: &[u8], levels: usize) -> ReadResult<'_, Tag>
     ensures { Told tag_as
         (tag (λ t. ltb t 13) levels s.now)
@@ -88,6 +90,7 @@ pub fn read_tag(s: &[u8], levels: usize) -> ReadResult<'_, Tag>
 
 // The tag of a node where only one is allowed.
 #[tactic(auto, unfolding(sheet::specs::Nodes::tag))]
+#[inline(always)]
 pub fn read_tag_of(s: &[u8], wanted: usize, levels: usize) -> ReadResult<'_, usize>
     ensures { Told read_as
         (tag (eqb wanted) levels s.now)
@@ -105,6 +108,7 @@ pub fn read_tag_of(s: &[u8], wanted: usize, levels: usize) -> ReadResult<'_, usi
 
 // Has the text at least two bytes, and does it begin and end with the same mark?
 #[tactic(auto, using(crate::proofs::Tests::looks))]
+#[inline(always)]
 fn looks_quoted(text: &[u8]) -> bool
     ensures { result ≡ looks_quoted text.now }
 {
@@ -113,6 +117,7 @@ fn looks_quoted(text: &[u8]) -> bool
 
 // The text of a String whose span was read; before it, what the source has there must look like one.
 #[tactic(auto, unfolding(sheet::specs::Nodes::text_behind))]
+#[inline(always)]
 pub fn read_string_text<'a>(quotation: &[u8], s: &'a [u8]) -> ReadResult<'a, &'a [u8]>
     ensures { Told text_as
         (text_behind quotation.now s.now)

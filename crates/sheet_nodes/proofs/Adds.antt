@@ -1,14 +1,12 @@
 -- How what is found adds up.
-use Rattle.std.specs.Prelude.{None, Option, Some, is_some}
-use Rattle.std.specs.Option.{option_or, unwrap_or}
-use Rattle.laws.proofs.Prelude.{◌≡◌, refl, Bool, false, ℕ, add-zero, zero-add}
-use mathlib.Core.Bool.{or_assoc, or-false}
+use Rattle.laws.proofs.Prelude.{◌≡◌, Bool, false, not, ◌&&◌, ◌||◌, or-true, ℕ, add-zero, zero-add}
+use mathlib.Core.Bool.{and-false, or_assoc, or-false}
 use native.Mathlib.Nat.{add_assoc}
 use Rattle.sheet.specs.{declared.fields.Span.Span, Shape.shape, Shape.is_uncooked, Walk.walk_of}
 use Rattle.sheet.specs.Tree.{Node, Arguments, no_arguments, argument}
 use Rattle.sheet.specs.Walked.{any_argument, first_uncooked, counting, entries, judging, uncooked}
 use Rattle.sheet_nodes.specs.declared.tally.Found.{Found}
-use Rattle.sheet_nodes.specs.code.Tallies.{Tally, ArgumentTally, node_tally, plus, with_argument, first_of, tally_of}
+use Rattle.sheet_nodes.specs.code.Tallies.{Tally, ArgumentTally, node_tally, plus, with_argument, tally_of}
 
 -- nothing is found; what else is asked is x
 abbrev pub nothing : {T : Type 0} → T → Found T
@@ -31,36 +29,22 @@ plus_nothing t = rw (add-zero, or-false t.uncooked)
 
 -- arguments behind others
 abbrev pub behind_passed : ArgumentTally → Arguments → ArgumentTally
-behind_passed p xs = record (plus p (tally_of xs)) { also = option_or p.also (first_of xs) }
-
-first_stays : (x : Option Bool) (b : Bool) (y : Option Bool) → option_or (option_or x (Some b)) y ≡ option_or x (Some b)
-first_stays None b y = refl
-first_stays (Some a) b y = refl
-
-none_behind : (x : Option Bool) → option_or x None ≡ x
-none_behind None = refl
-none_behind (Some b) = refl
+behind_passed p xs =
+    record (plus p (tally_of xs)) {
+      also = record { any = p.also.any || any_argument xs; template = p.also.template || (not p.also.any && first_uncooked xs) };
+    }
 
 pub one_more : (p : ArgumentTally) (dots : Bool) (sp : Span) (n : Node) (xs : Arguments) →
     behind_passed p (argument dots sp n xs) ≡ behind_passed (with_argument p (node_tally n)) xs
 one_more p dots sp n xs =
-    rw (
-      add_assoc p.entries (entries n) (walk_of counting xs),
-      or_assoc p.uncooked (uncooked n) (walk_of judging xs),
-      first_stays p.also (is_uncooked (shape n)) (first_of xs),
-    )
+    let first : Bool = p.also.template || (not p.also.any && is_uncooked (shape n)) in
+    rw (add_assoc p.entries (entries n) (walk_of counting xs), or_assoc p.uncooked (uncooked n) (walk_of judging xs), or-true p.also.any, or-false first)
 
-pub all_passed : (xs : Arguments) → behind_passed (nothing None) xs ≡ tally_of xs
+abbrev pub no_passed : ArgumentTally
+no_passed = nothing (record { any = false; template = false })
+
+pub all_passed : (xs : Arguments) → behind_passed no_passed xs ≡ tally_of xs
 all_passed xs = rw zero-add
 
 pub none_more : (p : ArgumentTally) → behind_passed p no_arguments ≡ p
-none_more p = rw (add-zero, or-false p.uncooked, none_behind p.also)
-
--- what the first argument says: is there one, and is it a template with an uncooked piece?
-pub any_first : (xs : Arguments) → is_some (first_of xs) ≡ any_argument xs
-any_first no_arguments = refl
-any_first (argument dots sp n xs) = refl
-
-pub uncooked_first : (xs : Arguments) → unwrap_or (first_of xs) false ≡ first_uncooked xs
-uncooked_first no_arguments = refl
-uncooked_first (argument dots sp n xs) = refl
+none_more p = rw (add-zero, or-false p.uncooked, or-false p.also.any, and-false (not p.also.any), or-false p.also.template)

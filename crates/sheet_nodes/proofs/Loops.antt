@@ -1,5 +1,4 @@
 -- What the loops over nodes, arguments and properties keep: what is found so far, with what is to come, is what is found in all.
-use Rattle.std.specs.Prelude.{None}
 use Rattle.laws.proofs.Prelude.{◌≡◌, sym, ap, ◌∙◌, Bool, false, List, ℕ, ◌+◌, ◌-◌, ◌≤◌, ◌<◌, arith, sub-zero}
 use Rattle.laws.specs.Decoded.{ok, no, on_ok, Decoder}
 use Rattle.laws.proofs.Decoding.{on_ok_ok, on_ok_no, on_ok_same}
@@ -12,7 +11,7 @@ use Rattle.sheet_heads.specs.code.Parts.{argument_head}
 use Rattle.sheet_heads.proofs.ByHead.{argument_by_head, property_by_head, property_rest}
 use Rattle.sheet_heads.proofs.Many.{found, found_step, found_stop, found_end}
 use Rattle.sheet_nodes.specs.code.Tallies.{Tally, NodeTally, ArgumentTally, node_tally, tally_all, tally_in, gain, plus, with_argument, tally_of}
-use Rattle.sheet_nodes.proofs.Adds.{nothing, is_nothing, plus_assoc, nothing_plus, plus_nothing, behind_passed, one_more, all_passed, none_more}
+use Rattle.sheet_nodes.proofs.Adds.{nothing, is_nothing, plus_assoc, nothing_plus, plus_nothing, behind_passed, one_more, all_passed, none_more, no_passed}
 
 -- what is found in all of so many items, of which so many are done: in these w
 module _ {L W : Type 0} (after : W → L → W) (end : L) (item : Decoder (L → L)) where
@@ -86,10 +85,12 @@ module _ (inner : Decoder Node) where
     from_arguments = found_from behind_passed no_arguments (argument_item inner source)
 
     pub arguments_first : {p : ArgumentTally} (count : ℕ) (u : List ℕ)
-        → (p.entries ≡ 0) × ((p.uncooked ≡ false) × (p.also ≡ None))
+        → (p.entries ≡ 0) × ((p.uncooked ≡ false) × ((p.also.any ≡ false) × (p.also.template ≡ false)))
         → on_ok tally_of (arguments inner source count u) ≡ from_arguments p count 0 u
     unfolding arguments from_arguments
-    arguments_first count u h = rw (is_nothing h, sub-zero) (sym (on_ok_same all_passed (many no_arguments (argument_item inner source) count u)))
+    arguments_first {p} count u h =
+        let none_passed : p ≡ no_passed = grind arith in
+        rw (none_passed, sub-zero) (sym (on_ok_same all_passed (many no_arguments (argument_item inner source) count u)))
 
     module _ (p : ArgumentTally) (count done : ℕ) (u : List ℕ) where
       follows : {a : Bool × Span} {v : List ℕ} {n : Node} {w : List ℕ} → argument_head source u ≡ ok a v → inner v ≡ ok n w

@@ -32,7 +32,7 @@ pub fn check_node<'a>(source: &[u8], s: &'a [u8], levels: usize) -> ReadResult<'
 
 // What follows a head, with so many levels left below its node: an arm for what each kind of node holds.
 #[cycle(check)]
-#[tactic(auto, using(crate::proofs::Arms::binary_holds, crate::proofs::Adds::any_first, crate::proofs::Adds::uncooked_first))]
+#[tactic(auto, using(crate::proofs::Arms::binary_holds))]
 fn check_rest<'a>(
     source: &[u8],
     s: &'a [u8],
@@ -86,6 +86,7 @@ fn check_rest<'a>(
 
 // A node that holds so many nodes: has it an entry of its own?
 #[cycle(check)]
+#[inline(always)]
 fn check_holding<'a>(
     source: &[u8],
     s: &'a [u8],

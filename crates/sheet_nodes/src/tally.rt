@@ -26,8 +26,14 @@ pub struct Seen {
 
 pub type NodeTally = Found<Seen>;
 
-// Of arguments also: is the first, if there is one, a template with an uncooked piece?
-pub type ArgumentTally = Found<Option<bool>>;
+// Of arguments also: is there one, is the first a template with an uncooked piece?
+#[derive(Clone, Copy, Default)]
+pub struct FirstSeen {
+    pub any: bool,
+    pub template: bool,
+}
+
+pub type ArgumentTally = Found<FirstSeen>;
 
 // In one part and in another; what else is asked is that of the first.
 impl<T: Copy, U: Copy> Add<Found<U>> for Found<T> {
@@ -46,13 +52,16 @@ impl<T: Copy, U: Copy> Add<Found<U>> for Found<T> {
     }
 }
 
-// One argument more: it is the first if there was none before it.
+// One argument more: its node counts for the template only if there was none before it.
 pub fn add_argument(p: ArgumentTally, j: NodeTally) -> ArgumentTally
     requires { p.entries + j.entries < 2 ^ 64 }
     ensures { result ≡ with_argument p j }
 {
     Found {
-        also: p.also.or(Some(j.also.template)),
+        also: FirstSeen {
+            any: true,
+            template: p.also.template || !p.also.any && j.also.template,
+        },
         ..p + j
     }
 }
@@ -97,8 +106,8 @@ pub fn called(callee: NodeTally, p: ArgumentTally) -> NodeTally
     requires { callee.entries + 1 + p.entries < 2 ^ 64 }
     ensures { result ≡ called_by callee p }
 {
-    let own = callee.also.require && p.also.is_some();
-    let first = callee.also.require && p.also.unwrap_or(false);
+    let own = callee.also.require && p.also.any;
+    let first = callee.also.require && p.also.template;
     let call = Found {
         entries: usize::from(own),
         uncooked: first,

@@ -15,7 +15,7 @@ use self::patterns::{
     DENO_TYPES, JSX_IMPORT_SOURCE, JSX_IMPORT_SOURCE_TYPES, PATH, RESOLUTION_MODE,
     SOURCE_MAPPING_URL, TRIPLE_SLASH, TS_SELF_TYPES, TS_TYPES, TYPES,
 };
-use self::run::{Reached, match_from};
+use self::run::match_from;
 use self::table::{Ill, check};
 use analysis::Capture;
 
@@ -45,7 +45,7 @@ fn find_row(table: &[u8], body: &[u8]) -> Option<Capture>
     ensures { FindsRow table.now body.now result }
 {
     let captured = Capture::default();
-    (0..=body.len()).find_map(|at| match_from(table, body, Reached { at, captured }))
+    (0..=body.len()).find_map(|at| match_from(table, body, at, captured))
 }
 
 // Runs any table on any body.

@@ -24,31 +24,20 @@ fn pass(plain: Plain, body: &[u8], from: Reached) -> Option<Reached>
     requires { from.at ≤ length body.now }
     ensures { Bounded (Passes (plain_as plain.entry) body.now from result) (PassedBy result (length body.now)) }
 {
-    let Reached { at, captured } = from;
+    let at = from.at;
+    let mut reached = from;
     match plain {
-        Plain::Start if at == 0 => Some(from),
-        Plain::Start => None,
-        Plain::Word(word) => Some(Reached {
-            at: match_word(body, at, word)?,
-            captured,
-        }),
-        Plain::One(class) => Some(Reached {
-            at: one_at(body, at, class)?,
-            captured,
-        }),
-        Plain::From(quoted) => Some(Reached {
-            at,
-            captured: Capture {
-                quoted,
-                from: at,
-                ..captured
-            },
-        }),
-        Plain::To => Some(Reached {
-            at,
-            captured: Capture { to: at, ..captured },
-        }),
+        Plain::Start if at == 0 => {}
+        Plain::Start => return None,
+        Plain::Word(word) => reached.at = match_word(body, at, word)?,
+        Plain::One(class) => reached.at = one_at(body, at, class)?,
+        Plain::From(quoted) => {
+            reached.captured.quoted = quoted;
+            reached.captured.from = at;
+        }
+        Plain::To => reached.captured.to = at,
     }
+    Some(reached)
 }
 
 // Where the character begins that ends at `end`.
@@ -67,7 +56,7 @@ fn match_longest(steps: &[u8], body: &[u8], from: Reached, class: Class) -> Opti
 {
     let mut end = run_end(body, from.at, class);
     loop {
-        let found = match_from(steps, body, Reached { at: end, ..from });
+        let found = match_from(steps, body, end, from.captured);
         if found.is_some() {
             return found;
         }
@@ -84,9 +73,10 @@ fn match_shortest(steps: &[u8], body: &[u8], from: Reached, class: Class) -> Opt
     requires { from.at ≤ length body.now }
     ensures { FirstOf (shortest class) steps.now body.now from result }
 {
+    let captured = from.captured;
     let mut end = from.at;
     loop {
-        let found = match_from(steps, body, Reached { at: end, ..from });
+        let found = match_from(steps, body, end, captured);
         if found.is_some() {
             return found;
         }
@@ -97,12 +87,17 @@ fn match_shortest(steps: &[u8], body: &[u8], from: Reached, class: Class) -> Opt
 // The preferred match, from how far it has come on, of the row that the numbers stand for.
 #[tactic(auto, using(crate::proofs::Running::on_steps))]
 #[cycle(run)]
-pub fn match_from(steps: &[u8], body: &[u8], from: Reached) -> Option<Capture>
-    requires { from.at ≤ length body.now }
-    ensures { FirstOf (λ q. q) steps.now body.now from result }
+pub fn match_from(steps: &[u8], body: &[u8], at: usize, captured: Capture) -> Option<Capture>
+    requires { at ≤ length body.now }
+    ensures { FirstOf (λ q. q) steps.now body.now (record { at = at; captured = captured }) result }
 {
     let mut rest = steps;
-    let mut here = from;
+    // field by field: a copy of the whole would wait until each part of it is written
+    let Capture { quoted, from, to } = captured;
+    let mut here = Reached {
+        at,
+        captured: Capture { quoted, from, to },
+    };
     loop {
         let Ok(step) = step_of(rest) else {
             return None;
@@ -116,7 +111,7 @@ pub fn match_from(steps: &[u8], body: &[u8], from: Reached) -> Option<Capture>
             Step::Longest(class, next) => return match_longest(next, body, here, class),
             Step::Shortest(class, next) => return match_shortest(next, body, here, class),
             Step::Either(first, second) => {
-                let found = match_from(first, body, here);
+                let found = match_from(first, body, here.at, here.captured);
                 if found.is_some() {
                     return found;
                 }

@@ -87,8 +87,9 @@ fn argued(code: u8, n: u8, left: &[u8]) -> Result<Step<'_>, Ill>
     }
 }
 
-// The step that the numbers begin with.
+// The step that the numbers begin with. Inlined, so that a row is run in one loop.
 #[tactic(auto, unfolding(crate::specs::Table::step_of))]
+#[inline(always)]
 pub fn step_of(steps: &[u8]) -> Result<Step<'_>, Ill>
     ensures { Bounded (next_as result ≡ step_of steps.now) (StepWithin (next_as result) (length steps.now)) }
 {

@@ -27,3 +27,4 @@ pub mod TextCases
 pub mod WithinRange
 pub mod WellFormed
 pub mod Words
+mod Masks

@@ -27,7 +27,7 @@ pub fn all_in_block<const N: usize, F: Fn(u8) -> bool>(s: &[u8], test: F) -> boo
 }
 
 // The place past the blocks of 32 bytes that all pass, from `at` on.
-fn skip_blocks<F: Fn(u8) -> bool>(s: &[u8], at: usize, test: &F) -> usize
+pub(crate) fn skip_blocks<F: Fn(u8) -> bool>(s: &[u8], at: usize, test: &F) -> usize
     requires callable { F.IsAlwaysCallable test.now }
     requires place { at ≤ length s.now }
     ensures { Passed (F.post test.now) s.now at result }

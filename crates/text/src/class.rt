@@ -50,6 +50,7 @@ fn wide_length_if<F: Fn(u32) -> bool>(s: &[u8], test: &F) -> usize
 }
 
 // The length in bytes of the character that the text begins with and whose code point passes, 0 where none stands there.
+#[inline(always)]
 fn length_if<F: Fn(u32) -> bool>(s: &[u8], test: &F) -> usize
     requires callable { F.IsAlwaysCallable test.now }
     ensures { Bounded (ByTest (F.post test.now) λ p. result ≡ length_if p s.now) (result ≤ length s.now) }
@@ -78,6 +79,7 @@ pub fn run_end_if<F: Fn(u32) -> bool>(s: &[u8], at: usize, test: &F) -> usize
 
 // The length in bytes of the character of the class that the text begins with, 0 where none stands there.
 #[tactic(auto, unfolding(crate::specs::Class::class_at))]
+#[inline(always)]
 pub fn class_at(s: &[u8], class: Class) -> usize
     ensures { Bounded (result ≡ class_at class s.now) (result ≤ length s.now) }
 {

@@ -64,6 +64,7 @@ fn groups(s: &[u8], left: usize, scale: usize, low: usize) -> ReadResult<'_, usi
 impl<'a> Cursor<'a> for &'a [u8] {
     // A byte.
     #[tactic(auto, using(crate::proofs::FieldsAtFront::byte_none))]
+    #[inline(always)]
     fn byte(self) -> ReadResult<'a, usize>
         ensures { Told read_as (byte self.now) (Past (length self.now)) result }
     {
@@ -75,6 +76,7 @@ impl<'a> Cursor<'a> for &'a [u8] {
 
     // A byte below a limit.
     #[tactic(auto, unfolding(crate::specs::Fields::below))]
+    #[inline(always)]
     fn below(self, limit: usize) -> ReadResult<'a, usize>
         ensures { Told read_as (below limit self.now) (Past (length self.now)) result }
     {
@@ -88,6 +90,7 @@ impl<'a> Cursor<'a> for &'a [u8] {
 
     // A byte, 0 or 1.
     #[tactic(auto, unfolding(crate::specs::Fields::flag))]
+    #[inline(always)]
     fn flag(self) -> ReadResult<'a, bool>
         ensures { Told read_as (flag self.now) (Past (length self.now)) result }
     {
@@ -97,6 +100,7 @@ impl<'a> Cursor<'a> for &'a [u8] {
 
     // A number: at most five groups of seven bits, low group first, in its shortest form. One of up to three groups is read right here.
     #[tactic(auto, using(crate::proofs::NumberGroups::first_place), unfolding(crate::specs::Number::number))]
+    #[inline(always)]
     fn number(self) -> ReadResult<'a, usize>
         ensures { Told read_as (number self.now) (Past (length self.now)) result }
     {
@@ -115,6 +119,7 @@ impl<'a> Cursor<'a> for &'a [u8] {
 
     // A number up to a limit: a count, or a length.
     #[tactic(auto, unfolding(crate::specs::Text::count))]
+    #[inline(always)]
     fn count(self, limit: usize) -> ReadResult<'a, usize>
         ensures { Told read_as (count limit self.now) (Past (length self.now)) result }
     {
@@ -128,6 +133,7 @@ impl<'a> Cursor<'a> for &'a [u8] {
 
     // A text: a length up to a limit, and as many bytes, well-formed.
     #[tactic(auto, unfolding(crate::specs::Text::text, crate::specs::Fields::bytes))]
+    #[inline(always)]
     fn text(self, encoding: Encoding, limit: usize) -> ReadResult<'a, &'a [u8]>
         ensures { Told text_as (text encoding limit self.now) (Past (length self.now)) result }
     {

@@ -24,7 +24,7 @@ pub returns-in-Ok-Some : goal.returns-in-Ok-Some
 returns-in-Ok-Some c =
     let some = c.in-Ok-Some in
     let is = rw (some.is, some.field-0-is) at c.judge.ensures in
-    let e = rw is at some.accepted.accepted in
+    let e = rw is at some.accepted.accepted.1 in
     record {
       answer = demanded e c.write_noted_report.ensures.answer;
       beside = sheet_notes _ _ e (rw c.fill.auto.self at c.write_noted_report.ensures.beside);

@@ -8,7 +8,7 @@ use Rattle.module_info.proofs.write_noted_report.Goals as goal
 
 pub returns-then-is_err : goal.returns-then-is_err
 returns-then-is_err c =
-    let t = c.args.accepted.now.sheet in
+    let t = c.args.accepted.now.accepted.0 in
     let w = c.put_noted_report.new.w in
     let o = c.finish-outcome.result in
     let written = c.put_noted_report.ensures.answer in
@@ -22,7 +22,7 @@ returns-then-is_err c =
 
 pub returns-else-is_err : goal.returns-else-is_err
 returns-else-is_err c =
-    let t = c.args.accepted.now.sheet in
+    let t = c.args.accepted.now.accepted.0 in
     let w = c.put_noted_report.new.w in
     let o = c.finish-outcome.result in
     let written = c.put_noted_report.ensures.answer in

@@ -1,7 +1,6 @@
 -- The value of an accepted sheet.
 use Rattle.std.specs.Prelude.{◌≡◌, List, [], ℕ}
-use Rattle.std.specs.Coded.{Coded, Coded-set, code_by, coded_ℕ, coded_list}
-use base.Stored.{coded_sub}
+use Rattle.std.specs.Coded.{Coded-set, coded_ℕ, coded_list}
 use mathlib.Core.Path.{refl, sym, ap, ◌∙◌, path_j'}
 use mathlib.Core.HLevel.{⊥_prop}
 use Rattle.laws.specs.Decoded.{Decoded, ok, no}
@@ -46,9 +45,3 @@ module _ {A : Type 0} where
 -- the bytes of a sheet are of one sheet
 pub one_sheet : (s : List ℕ) → IsProp (IsAccepted s)
 one_sheet s = one_value (accept s)
-
--- it is told by its bytes
-abbrev pub accepted_code : Coded AcceptedSheet
-accepted_code =
-    code_by ((s : List ℕ) × IsAccepted s) (coded_sub (coded_list coded_ℕ) IsAccepted one_sheet) (λ a. (a.bytes, (a.sheet, a.accepted)))
-    (λ p. record { bytes = p.0; sheet = p.1.0; accepted = p.1.1 }) (λ _. refl)

@@ -14,14 +14,14 @@ module _ (notes : List ℕ) (long : length notes ≡ 1 + 2 * entry_limit) where
 pub slice_bounds-result-end : goal.slice_bounds-result-end
 slice_bounds-result-end c =
     let rows : length c.as_chunks.result.0.now ≡ entry_limit = c.as_chunks.ensures.front_len ∙ many _ c.told-notes in
-    sym (length-take-le _ _ (omega (arith, few_rows _ c.args.accepted.now.accepted, c.parts.ensures.count, rows)))
+    sym (length-take-le _ _ (omega (arith, few_rows _ c.args.accepted.now.accepted.1, c.parts.ensures.count, rows)))
 
 pub returns : goal.returns
 returns c =
     λ held.
     let count = c.parts.ensures.count in
-    let few = few_rows _ c.args.accepted.now.accepted in
+    let few = few_rows _ c.args.accepted.now.accepted.1 in
     let fits : c.parts.result.tree.entries ≤ length (take (2 * entry_limit) (drop 1 c.args.notes.now)) / 2 =
     omega (arith, few, count, many _ c.told-notes) in
-    starts_held c.args.accepted.now.sheet _ c.parts.result.tree.entries
+    starts_held c.args.accepted.now.accepted.0 _ c.parts.result.tree.entries
     c.as_chunks.ensures.front (tail _ c.told-notes) count fits (omega (arith, few, count, c.told-notes)) held

@@ -15,4 +15,4 @@ returns-in-None c =
 pub returns-in-Some : goal.returns-in-Some
 returns-in-Some c =
     let is = rw (c.in_ok-judge.was, c.in-Some.is) at c.judge.ensures in
-    c.write_ruled_report.ensures ∙ sym (both_sheet _ _ _ (rw is at c.in-Some.accepted.accepted))
+    c.write_ruled_report.ensures ∙ sym (both_sheet _ _ _ (rw is at c.in-Some.accepted.accepted.1))

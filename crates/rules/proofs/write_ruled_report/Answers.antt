@@ -7,14 +7,14 @@ use Rattle.rules.proofs.write_ruled_report.Goals as goal
 
 pub returns-in_err-report : goal.returns-in_err-report
 returns-in_err-report c =
-    let t = c.args.accepted.now.sheet in
+    let t = c.args.accepted.now.accepted.0 in
     rw (handed _ c.from_residual.ensures, c.write_noted_report.auto.buffer)
     (first_refused (length c.args.buffer.now) (length c.args.rules.now) (module_info t) (rules_of t) _ c.in_err-report.ensures.answer)
 
 pub returns : goal.returns
 returns c =
     let room = length c.args.rules.now in
-    let t = c.args.accepted.now.sheet in
+    let t = c.args.accepted.now.accepted.0 in
     let accepted = rw c.in_ok-report.was at c.write_noted_report.ensures.answer in
     let noted = rw c.in_ok-report.was at c.write_noted_report.ensures.beside in
     let put = c.put_rules.ensures (c.rows_in.ensures (rw (← c.write_noted_report.auto.notes) at noted)) in

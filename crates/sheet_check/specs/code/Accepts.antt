@@ -10,7 +10,7 @@ use Rattle.sheet.specs.Walked.{entries}
 use Rattle.sheet.specs.Sheet.{Sheet, accept}
 use Rattle.sheet_nodes.specs.code.Reach.{ReachesIn}
 use Rattle.sheet_check.specs.declared.check.Parts.{Parts}
-use Rattle.sheet_check.specs.code.Views.{FoundAt}
+use Rattle.sheet_check.specs.code.Views.{FoundAt, EndsWith}
 
 -- a sheet s is accepted, and the parts stand for what it decodes to
 pub record Accepts (s : List ℕ) (p : Parts) : Type 0 where
@@ -24,6 +24,7 @@ pub record Accepts (s : List ℕ) (p : Parts) : Type 0 where
   pub few : (length p.front.comments.now ≤ comment_limit) × (length p.front.groups.now ≤ group_limit)
   pub program : p.tree.program ≡ sheet.program
   pub root : node sheet.source depth_limit p.tree.root.now ≡ ok sheet.root []
+  pub root_place : EndsWith s p.tree.root.now
   pub entries : entries sheet.root ≡ p.tree.entries
   pub reaches : ReachesIn p.tree.reach sheet.root
 

@@ -1,5 +1,5 @@
 -- What the answers of the code stand for.
-use Rattle.std.specs.Prelude.{◌≡◌, false, List, [], ℕ, ◌+◌, ◌-◌, ◌≤◌, Result, Ok, Err, length}
+use Rattle.std.specs.Prelude.{◌≡◌, false, List, [], ℕ, ◌+◌, ◌-◌, ◌≤◌, Result, Ok, Err, length, drop}
 use Rattle.std.specs.Borrow.{Bor}
 use Rattle.laws.specs.Decoded.{Decoded, ok, no}
 use Rattle.text.specs.Bytes.{part}
@@ -29,6 +29,11 @@ source_as = read_with (λ p. (p.0, p.1.now))
 pub record FoundAt (s : List ℕ) (at : ℕ) (x : List ℕ) : Type 0 where
   pub inside : at + length x ≤ length s
   pub there : part s at (at + length x) ≡ x
+
+-- s ends with x
+pub record EndsWith (s x : List ℕ) : Type 0 where
+  pub fits : length x ≤ length s
+  pub there : drop (length s - length x) s ≡ x
 
 -- x stands in s, right in front of so many bytes, with which s ends
 pub record InFront (s x : List ℕ) (left : ℕ) : Type 0 where

@@ -1,6 +1,5 @@
 -- What is found in a node, made from what is found in others, and the bounds that the answers of the code keep.
-use Rattle.std.specs.Prelude.{Bool, false, ◌&&◌, ◌||◌, List, ℕ, ◌+◌, ◌≤◌, ◌<◌, length, is_some}
-use Rattle.std.specs.Option.{unwrap_or}
+use Rattle.std.specs.Prelude.{Bool, false, ◌&&◌, ◌||◌, List, ℕ, ◌+◌, ◌≤◌, ◌<◌, length}
 use Rattle.std.specs.Borrow.{Bor}
 use Rattle.laws.specs.Decoded.{Decoded}
 use Rattle.text.specs.Truth.{one}
@@ -21,8 +20,8 @@ with_own own template t = record (plus (leaf_of own false) t) { also = record { 
 abbrev pub called_by : NodeTally → ArgumentTally → NodeTally
 called_by e p =
     record {
-      entries = (plus e p).entries + one (e.also.require && is_some p.also);
-      uncooked = (plus e p).uncooked || (e.also.require && unwrap_or p.also false);
+      entries = (plus e p).entries + one (e.also.require && p.also.any);
+      uncooked = (plus e p).uncooked || (e.also.require && p.also.template);
       also = record { require = false; template = false };
     }
 

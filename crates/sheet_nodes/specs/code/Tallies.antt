@@ -1,12 +1,12 @@
 -- What the check of a node finds: for the report, and for the node that holds it.
-use Rattle.std.specs.Prelude.{Bool, true, false, ◌||◌, ◌+◌, None, Option, Some}
-use Rattle.std.specs.Option.{option_or}
-use Rattle.sheet.specs.Tree.{Node, Nodes, Arguments, no_arguments, argument, Properties, no_properties, Attributes}
+use Rattle.std.specs.Prelude.{true, false, not, ◌&&◌, ◌||◌, ◌+◌}
+use Rattle.sheet.specs.Tree.{Node, Nodes, Arguments, Properties, no_properties, Attributes}
 use Rattle.sheet.specs.Shape.{shape, is_require, is_uncooked}
 use Rattle.sheet.specs.Walk.{walk_all, walk_of, walk_in, walk_with}
-use Rattle.sheet.specs.Walked.{counting, entries, judging, uncooked}
+use Rattle.sheet.specs.Walked.{any_argument, first_uncooked, counting, entries, judging, uncooked}
 use Rattle.sheet_nodes.specs.declared.tally.Found.{Found}
 use Rattle.sheet_nodes.specs.declared.tally.Seen.{Seen}
+use Rattle.sheet_nodes.specs.declared.tally.FirstSeen.{FirstSeen}
 
 -- of nodes, of a node, and of arguments
 abbrev pub Tally : Type 0
@@ -16,7 +16,7 @@ abbrev pub NodeTally : Type 0
 NodeTally = Found Seen
 
 abbrev pub ArgumentTally : Type 0
-ArgumentTally = Found (Option Bool)
+ArgumentTally = Found FirstSeen
 
 -- what is found in a node
 abbrev pub node_tally : Node → NodeTally
@@ -33,14 +33,10 @@ tally_in ps = record { entries = walk_in counting ps; uncooked = walk_in judging
 abbrev pub tally_with : Attributes → Tally
 tally_with a = record { entries = walk_with counting a; uncooked = walk_with judging a; also = tt {0} }
 
--- the first argument, if there is one: is it a template with an uncooked piece?
-abbrev pub first_of : Arguments → Option Bool
-first_of no_arguments = None
-first_of (argument dots sp n xs) = Some (is_uncooked (shape n))
-
 -- in arguments
 abbrev pub tally_of : Arguments → ArgumentTally
-tally_of xs = record { entries = walk_of counting xs; uncooked = walk_of judging xs; also = first_of xs }
+tally_of xs =
+    record { entries = walk_of counting xs; uncooked = walk_of judging xs; also = record { any = any_argument xs; template = first_uncooked xs } }
 
 -- in one part and in another; what else is asked is that of the first
 abbrev pub plus : {T U : Type 0} → Found T → Found U → Found T
@@ -50,9 +46,9 @@ plus t u = record { entries = t.entries + u.entries; uncooked = t.uncooked || u.
 abbrev pub gain : (Properties → Properties) → Tally
 gain add = tally_in (add no_properties)
 
--- one argument more: it is the first if there was none before it
+-- one argument more: its node counts for the template if there was none before it
 abbrev pub with_argument : ArgumentTally → NodeTally → ArgumentTally
-with_argument p j = record (plus p j) { also = option_or p.also (Some j.also.template) }
+with_argument p j = record (plus p j) { also = record { any = true; template = p.also.template || (not p.also.any && j.also.template) } }
 
 -- what stands for the callee of an import: it is listed as `require` is
 abbrev pub import_callee : NodeTally

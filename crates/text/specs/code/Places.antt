@@ -1,5 +1,5 @@
 -- What a search says of the places that it passed.
-use Rattle.std.specs.Prelude.{◌≡◌, Bool, true, false, List, ℕ, ◌≤◌, ◌<◌, length, get_or, count_by}
+use Rattle.std.specs.Prelude.{◌≡◌, Bool, true, false, List, ℕ, ◌+◌, ◌≤◌, ◌<◌, length, get_or, count_by}
 
 -- p is what a test answers, by the answers that it may give of a byte
 abbrev pub TestOf : (ℕ → Bool → Type 0) → (ℕ → Bool) → Type 0
@@ -12,6 +12,12 @@ Counts gives s n = (p : ℕ → Bool) → TestOf gives p → n ≡ count_by p s
 -- the first n bytes pass it
 abbrev pub AllPass : (ℕ → Bool → Type 0) → List ℕ → ℕ → Type 0
 AllPass gives s n = (p : ℕ → Bool) → TestOf gives p → (k : ℕ) → k < n → p (get_or s k 0) ≡ true
+
+-- r of the n bytes from `at` on stand before the first that passes p, all where none does
+pub record Before (p : ℕ → Bool) (s : List ℕ) (at n r : ℕ) : Type 0 where
+  pub most : r ≤ n
+  pub fails : (k : ℕ) → at ≤ k → k < at + r → p (get_or s k 0) ≡ false
+  pub stops : r < n → p (get_or s (at + r) 0) ≡ true
 
 -- from `at` on to r, of n places at most: P holds of each place between
 pub record Passing (P : ℕ → Type 0) (at n r : ℕ) : Type 0 where

@@ -1,5 +1,5 @@
 use Rattle.std.specs.Option.{is_some}
-use Rattle.laws.proofs.Prelude.{rules, ap, ◌∙◌, [], told}
+use Rattle.laws.proofs.Prelude.{rules, refl, ap, ◌∙◌, [], told}
 use Rattle.report.specs.ModuleInfo.{known}
 use Rattle.attributes.specs.Attributes.{props, static_attributes}
 use Rattle.attributes.specs.code.Views.{object_in}
@@ -11,5 +11,5 @@ pub returns : goal.returns
 unfolding static_attributes object_in
 returns c y t u e =
     let (ps, x, object) = behind_attributes _ _ _ (rw c.in-Some.is at e) (told c.read_attributes.ensures c.in-Ok.is) in
-    let read = c.parse_import_attributes_from_object_lit.ensures (λ a. is_some a.value) ps t (λ p r says. search (rules, has_value)) x in
-    ap known (read.0 ∙ known_kept [] (props ps)) ∙ ap static_attributes object
+    let read = c.parse_import_attributes_from_object_lit.ensures.unless_stopped (λ a. is_some a.value) ps t (λ p r says. search (rules, has_value)) x refl in
+    ap known (read ∙ known_kept [] (props ps)) ∙ ap static_attributes object

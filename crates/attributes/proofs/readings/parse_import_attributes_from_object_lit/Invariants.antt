@@ -6,12 +6,13 @@ use Rattle.attributes.specs.{Attributes.Prop, code.Views.Tests, code.Views.kept,
 use Rattle.attributes.proofs.Loops.{Going}
 use Rattle.attributes.proofs.readings.parse_import_attributes_from_object_lit.Given as goal
 
-abbrev pub after : (KeyValue → Bool) → List KeyValue × Bool → List Prop → List KeyValue × Bool
-after f p es = (kept f p.0 es, p.1 && all_keyed es)
+abbrev pub keyed_after : Bool → List Prop → Bool
+keyed_after b es = b && all_keyed es
 
 abbrev pub invariant-loop : goal.invariant-loop
 invariant-loop g l =
     goal.F-IsAlwaysCallable g l.counts
     × (length l.pairs ≤ l.counter)
+    × Going keyed_after (node l.source l.levels) true l.count l.s l.all_keyed l.counter l.at
     × ((f : KeyValue → Bool) → Tests (FnReturnsAt g.F.Fn l.counts) f
-    → Going (after f) (node l.source l.levels) ([], true) l.count l.s (l.pairs, l.all_keyed) l.counter l.at)
+    → Going (kept f) (node l.source l.levels) [] l.count l.s l.pairs l.counter l.at)

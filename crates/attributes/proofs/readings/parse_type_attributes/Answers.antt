@@ -7,10 +7,12 @@ pub returns-then-parse_import_attributes_from_object_lit : goal.returns-then-par
 unfolding object_in
 returns-then-parse_import_attributes_from_object_lit c y t u e =
     type_read _ _ _ (rw c.in-Some.is at e) (told c.read_attributes.ensures c.in-Ok.is)
-    (λ ps t. c.if-parse_import_attributes_from_object_lit.ensures (λ a. true) ps t (λ p r says. search rules))
+    c.if-parse_import_attributes_from_object_lit.ensures.readable
+    (λ ps t. c.if-parse_import_attributes_from_object_lit.ensures.unless_stopped (λ a. true) ps t (λ p r says. search rules))
 
 pub returns-else-parse_import_attributes_from_object_lit : goal.returns-else-parse_import_attributes_from_object_lit
 unfolding object_in
 returns-else-parse_import_attributes_from_object_lit c y t u e =
     type_read _ _ _ (rw c.in-Some.is at e) (told c.read_attributes.ensures c.in-Ok.is)
-    (λ ps t. c.if-parse_import_attributes_from_object_lit.ensures (λ a. true) ps t (λ p r says. search rules))
+    c.if-parse_import_attributes_from_object_lit.ensures.readable
+    (λ ps t. c.if-parse_import_attributes_from_object_lit.ensures.unless_stopped (λ a. true) ps t (λ p r says. search rules))

@@ -19,7 +19,7 @@ returns-in_err-late_entry c =
     let report = (reported (rw is at c.module_info.ensures)).1 in
     rw c.from_residual-in_err-late_entry.ensures
     (record {
-      answer = λ zero. none_late report _ c.late_entry.result c.late_entry.ensures c.in_err-late_entry.was;
+      answer = λ zero. none_late report _ c.late_entry.result c.late_entry.ensures.answer c.in_err-late_entry.was;
       bounds = tt;
       left = search rules;
     })
@@ -29,7 +29,7 @@ returns c =
     let is = check_passed c.ok.ensures.value c.in_ok-n.was in
     let report = (reported (rw is at c.module_info.ensures)).1 in
     record {
-      answer = λ zero. some_late report _ c.late_entry.result c.late_entry.ensures c.in_ok-late_entry.was;
+      answer = λ zero. some_late report _ c.late_entry.result c.late_entry.ensures.answer c.in_ok-late_entry.was;
       bounds = report.within;
       left = search rules;
     }

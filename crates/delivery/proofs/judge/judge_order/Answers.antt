@@ -12,7 +12,7 @@ returns-in_err-late c =
     let l = c.loop-i in
     let zero = row_has (Reported _) _ _ _ c.loop-i-test.true all in
     let judged = rw (l.invariant.0, c.in-Some.is) at c.judge_module.ensures.answer in
-    absurd ((late_again _ _ _ c.late_entry.result (judged zero) c.late_entry.ensures).1 c.in_err-late.was)
+    absurd ((late_again _ _ _ c.late_entry.result (judged zero) c.late_entry.ensures.answer).1 c.in_err-late.was)
 
 pub returns-in-Some : goal.returns-in-Some
 returns-in-Some c =
@@ -22,7 +22,7 @@ returns-in-Some c =
     let behind = modules_in_turn (names_of (modules_in (take (l.i + 1) rows))) (l.i + 1) (modules_in (drop (l.i + 1) rows)) in
     let zero = row_has (Reported _) _ _ _ c.loop-i-test.true all in
     let judged = rw (l.invariant.0, c.in-Some.is) at c.judge_module.ensures.answer in
-    let (found, _) = late_again _ _ _ c.late_entry.result (judged zero) c.late_entry.ensures in
+    let (found, _) = late_again _ _ _ c.late_entry.result (judged zero) c.late_entry.ensures.answer in
     rw c.in_ok-late.was at (found l.i behind) ∙ sym (l.invariant.1 all ∙ module_at _ _ _ c.loop-i-test.true)
 
 pub loop-i-preserved : goal.loop-i-preserved

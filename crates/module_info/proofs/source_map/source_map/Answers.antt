@@ -15,4 +15,4 @@ pub returns : goal.returns
 returns c =
     let is = rw (c.in_ok-accepted.was, c.in-Some.is) at c.judge.ensures in
     let read = rw is at c.read_source_map.ensures in
-    source_map_right _ (ap given read.answer ∙ sym (of_sheet _ (rw is at c.in-Some.accepted.accepted))) read.bounds
+    source_map_right _ (ap given read.answer ∙ sym (of_sheet _ (rw is at c.in-Some.accepted.accepted.1))) read.bounds

@@ -1,5 +1,5 @@
 use Rattle.report_reader.proofs.{FromBytes.flag_told}
 use Rattle.report_reader.proofs.fields.read_flag.Goals as goal
 
-pub returns : goal.returns
-returns c = flag_told c.read_number-byte.ensures
+pub returns-clause-answer : goal.returns-clause-answer
+returns-clause-answer c = flag_told c.read_number-byte.ensures

@@ -1,6 +1,6 @@
 use Rattle.laws.proofs.Prelude.{arith}
-use Rattle.report_reader.proofs.FromBytes.{number_or}
+use Rattle.report_reader.proofs.{FromBytes.number_or, Parts.end_none}
 use Rattle.report_reader.proofs.fields.read_number.Goals as goal
 
 pub returns : goal.returns
-returns c = number_or _ c.number.result _ c.number.ensures.answer (omega arith) c.unwrap_or.ensures
+returns c = number_or _ c.number.result _ c.number.ensures.answer (omega arith) (end_none _) c.unwrap_or.ensures

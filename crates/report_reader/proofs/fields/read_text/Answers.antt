@@ -1,5 +1,10 @@
-use Rattle.report_reader.proofs.FromBytes.{text_or}
+use Rattle.report_reader.proofs.{FromBytes.text_or, Parts.end_whole, Parts.end_further, Parts.split_or}
 use Rattle.report_reader.proofs.fields.read_text.Goals as goal
 
-pub returns : goal.returns
-returns c = text_or c.read_number-n.ensures c.split_at_checked.result _ c.split_at_checked.ensures.cases c.unwrap_or.ensures
+pub returns-clause-answer : goal.returns-clause-answer
+returns-clause-answer c = text_or c.read_number-n.ensures c.split_at_checked.result _ c.split_at_checked.ensures.cases c.unwrap_or.ensures
+
+pub returns-clause-rest : goal.returns-clause-rest
+returns-clause-rest c =
+    end_further c.read_number-n.ensures.rest
+    (split_or _ _ c.split_at_checked.result _ c.split_at_checked.ensures.cases (end_whole _) c.unwrap_or.ensures)

@@ -7,19 +7,19 @@ use Rattle.report.specs.Encode.{encode_attributes}
 use Rattle.report_reader.proofs.{FromBytes.byte_read}
 use Rattle.report_reader.proofs.fields.skip_attributes.Goals as goal
 
-pub returns-in-Known : goal.returns-in-Known
+pub returns-in-Known-clause-answer : goal.returns-in-Known-clause-answer
 unfolding encode_attributes
-returns-in-Known c =
+returns-in-Known-clause-answer c =
     let byte = byte_read c.read_number-kind.ensures in
     elim [
       | none ↦ λ v t e. let h = rw (byte 0 (omega arith) t e).0 at c.in-Known.ensures in cc
       | unknown ↦ λ v t e. let h = rw (byte 1 (omega arith) t e).0 at c.in-Known.ensures in cc
-      | known l ↦ λ v t e. c.skip_list.ensures l v t (byte 2 (omega arith) _ e).1
+      | known l ↦ λ v t e. c.skip_list.ensures.answer l v t (byte 2 (omega arith) _ e).1
     ]
 
-pub returns-in-None : goal.returns-in-None
+pub returns-in-None-clause-answer : goal.returns-in-None-clause-answer
 unfolding encode_attributes
-returns-in-None c =
+returns-in-None-clause-answer c =
     let byte = byte_read c.read_number-kind.ensures in
     elim [
       | none ↦ λ v t e. (byte 0 (omega arith) t e).1

@@ -39,23 +39,23 @@ match_longest-loop-from-preserved t c =
           c.if-end-from.false c.char_before-end.ensures.answer).1,
     )
 
-pub match_shortest-loop-from-init : goal.match_shortest-loop-from-init
-match_shortest-loop-from-init t c = (c.requires, record { on = λ q i. refl })
+pub match_shortest-loop-class-init : goal.match_shortest-loop-class-init
+match_shortest-loop-class-init t c = (c.requires, record { on = λ q i. refl })
 
 pub match_shortest-returns-then-is_some : goal.match_shortest-returns-then-is_some
-match_shortest-returns-then-is_some t c = short_hit c.match_from-found.ensures c.loop-from.invariant.1 c.if-is_some.ensures
+match_shortest-returns-then-is_some t c = short_hit c.match_from-found.ensures c.loop-class.invariant.1 c.if-is_some.ensures
 
 pub match_shortest-returns-in_err-end : goal.match_shortest-returns-in_err-end
 match_shortest-returns-in_err-end t c =
-    rw c.from_residual.ensures (short_stop c.match_from-found.ensures c.loop-from.invariant.1 c.if-is_some.ensures c.in_err-end.ensures.answer)
+    rw c.from_residual.ensures (short_stop c.match_from-found.ensures c.loop-class.invariant.1 c.if-is_some.ensures c.in_err-end.ensures.answer)
 
-pub match_shortest-loop-from-smaller : goal.match_shortest-loop-from-smaller
-match_shortest-loop-from-smaller t c =
-    let l = short_on c.match_from-found.ensures c.loop-from.invariant.1 c.if-is_some.ensures c.in_ok-end.ensures.answer in
+pub match_shortest-loop-class-smaller : goal.match_shortest-loop-class-smaller
+match_shortest-loop-class-smaller t c =
+    let l = short_on c.match_from-found.ensures c.loop-class.invariant.1 c.if-is_some.ensures c.in_ok-end.ensures.answer in
     omega (arith, l.0, c.in_ok-end.ensures.bounds)
 
-pub match_shortest-loop-from-preserved : goal.match_shortest-loop-from-preserved
-match_shortest-loop-from-preserved t c = (
+pub match_shortest-loop-class-preserved : goal.match_shortest-loop-class-preserved
+match_shortest-loop-class-preserved t c = (
   c.in_ok-end.ensures.bounds,
-  (short_on c.match_from-found.ensures c.loop-from.invariant.1 c.if-is_some.ensures c.in_ok-end.ensures.answer).1,
+  (short_on c.match_from-found.ensures c.loop-class.invariant.1 c.if-is_some.ensures c.in_ok-end.ensures.answer).1,
 )

@@ -29,8 +29,8 @@ invariant-match_longest-loop-from l =
 abbrev pub decreases-match_longest-loop-from : goal.decreases-match_longest-loop-from
 decreases-match_longest-loop-from l = l.end
 
-abbrev pub invariant-match_shortest-loop-from : goal.invariant-match_shortest-loop-from
-invariant-match_shortest-loop-from l = (l.end ≤ length l.body) × Shorter l.class l.steps l.body l.from l.end
+abbrev pub invariant-match_shortest-loop-class : goal.invariant-match_shortest-loop-class
+invariant-match_shortest-loop-class l = (l.end ≤ length l.body) × Shorter l.class l.steps l.body l.fn.from l.end
 
-abbrev pub decreases-match_shortest-loop-from : goal.decreases-match_shortest-loop-from
-decreases-match_shortest-loop-from l = length l.body - l.end
+abbrev pub decreases-match_shortest-loop-class : goal.decreases-match_shortest-loop-class
+decreases-match_shortest-loop-class l = length l.body - l.end

@@ -1,14 +1,26 @@
-use Rattle.laws.proofs.Prelude.{rules}
-use Rattle.std.proofs.lemmas.Fn.{always_returns_same}
-use Rattle.text.{specs.Bytes.order, proofs.Words.order_is}
-use Rattle.attributes.proofs.Insertion.{searched}
+use Rattle.laws.proofs.Prelude.{rules, arith, length}
+use Rattle.std.specs.Cmp.Lexicographic.{texts_ties}
+use Rattle.text.proofs.Words.{order_is}
+use Rattle.attributes.proofs.Insertion.{slot_same, slot_before}
 use Rattle.attributes.proofs.pairs.Pairs.find.Goals as goal
 
-pub returns : goal.returns
-returns c =
-    let rows = c.as_slice.result.now in
-    let pairs = c.as_slice.ensures in
-    let found = c.binary_search_by.ensures in
-    let by_key = found.position (λ row. order row.key.now c.args.p.key.now)
-    (always_returns_same _ _ _ (λ a r g called. (rw order_is (search rules), search rules))) in
-    rw pairs.answer at (searched c.args.p rows (rw pairs.answer pairs.bounds) _ found.bound by_key)
+pub returns-in-Some : goal.returns-in-Some
+returns-in-Some c =
+    let rows = c.as_slice-rows in
+    rw rows.ensures.answer at
+    (slot_same c.args.p rows.result.now c.in-Some.i (search rules) (λ k d l m. rw order_is (search rules))
+    (λ d. rw order_is (search rules, rw (← texts_ties) (search rules))))
+
+pub returns-in-Some-2 : goal.returns-in-Some-2
+returns-in-Some-2 c =
+    let rows = c.as_slice-rows in
+    rw rows.ensures.answer at
+    (slot_before c.args.p rows.result.now c.in-Some.i (search rules) (λ k d l m. rw order_is (search rules))
+    (λ l d. rw order_is (search rules, rw (← texts_ties) (search rules))))
+
+pub returns-in-None : goal.returns-in-None
+returns-in-None c =
+    let rows = c.as_slice-rows in
+    rw rows.ensures.answer at
+    (slot_before c.args.p rows.result.now (length rows.result.now) (search rules) (λ k d l m. rw order_is (search rules))
+    (λ l. absurd (omega arith)))

@@ -22,4 +22,4 @@ pub returns-in-Template-clause-answer : goal.returns-in-Template-clause-answer
 returns-in-Template-clause-answer c = λ x v t e.
     let (l, p, e) = template_argument c.read_number-kind.ensures c.in-Template.ensures x.0 _
     (e ∙ append_assoc (encode_argument x.0) (encode_range x.1) t) in
-    rw p (c.cite_range-in-Template.ensures.answer x.1 v.1 t (c.skip_list.ensures l (rw p at v.0) _ e))
+    rw p (c.cite_range-in-Template.ensures.answer x.1 v.1 t (c.skip_list.ensures.answer l (rw p at v.0) _ e))

@@ -16,7 +16,7 @@ returns-clause-answer c =
     let u = c.cite_optional-m.ensures in
     λ m v t e.
     let numbers = c.args.self.now.numbers.now in
-    let (_, e) = c.read_flag.ensures m.is_script tt _ (simp append_assoc at e) in
+    let (_, e) = c.read_flag.ensures.answer m.is_script tt _ (simp append_assoc at e) in
     let (d, e) = d.answer m.dependencies v.dependencies _ e in
     let (r, e) = r.answer m.ts_references v.ts_references _ e in
     let r = rw (each_plain cite_reference numbers m.ts_references) at r in

@@ -19,10 +19,10 @@ returns-in-Static-clause-answer c =
       | static d ↦ λ v t e.
           let types = simp append_assoc at (byte _ (small (Static d.kind)) _ e).1 in
           let (p, e) = first.ensures.answer d.specifier v.specifier _
-          (c.skip_optional-next.ensures d.types_specifier v.types_specifier _ types) in
+          (c.skip_optional-next.ensures.answer d.types_specifier v.types_specifier _ types) in
           let (q, _) = c.cite_optional-more.ensures.answer d.types_specifier v.types_specifier _ types in
-          let (_, e) = flag.ensures d.side_effect tt _ e in
-          rw (← c.dependency_letter-letter.ensures) (both p q, c.skip_attributes.ensures d.import_attributes v.import_attributes t e)
+          let (_, e) = flag.ensures.answer d.side_effect tt _ e in
+          rw (← c.dependency_letter-letter.ensures) (both p q, c.skip_attributes.ensures.answer d.import_attributes v.import_attributes t e)
       | dynamic d ↦ λ v t e.
           absurd (apart (sym c.in-Static.is ∙
           told kind.ensures (Dynamic d.kind) (byte _ (small (Dynamic d.kind)) _ e).0))
@@ -43,7 +43,7 @@ returns-in-Dynamic-clause-answer c =
           let types = simp append_assoc at (byte _ (small (Dynamic d.kind)) _ e).1 in
           let (p, e) = first.ensures.answer (d.argument, d.argument_range) (v.argument, v.argument_range)
           (encode_attributes d.import_attributes ++ t)
-          (rw append_assoc (c.skip_optional-next.ensures d.types_specifier v.types_specifier _ types)) in
+          (rw append_assoc (c.skip_optional-next.ensures.answer d.types_specifier v.types_specifier _ types)) in
           let (q, _) = c.cite_optional-more-in-Dynamic.ensures.answer d.types_specifier v.types_specifier _ types in
-          rw (← c.dependency_letter-letter.ensures) (both p q, c.skip_attributes-in-Dynamic.ensures d.import_attributes v.import_attributes t e)
+          rw (← c.dependency_letter-letter.ensures) (both p q, c.skip_attributes-in-Dynamic.ensures.answer d.import_attributes v.import_attributes t e)
     ]

@@ -9,7 +9,7 @@ ghost use Rattle.report.specs.ModuleInfo as info;
 ghost use Rattle.report.specs.Encode.{encode_argument};
 ghost use Rattle.report.specs.Buffer.{Wrote, Keeps};
 ghost use Rattle.arguments.specs.Argument.{of_pieces, argument_of, one_piece, single_text, replaced_in};
-ghost use Rattle.arguments.specs.code.Views.{Stands};
+ghost use Rattle.arguments.specs.code.Views.{Stands, ArgumentWithin};
 
 use super::bin::{put_bin, visit_bin};
 use super::expression::{Expression, read_expression};
@@ -33,9 +33,10 @@ pub enum DynamicArgument<'a> {
 // A template by its holes: one of one piece is its text.
 #[tactic(auto, using(crate::proofs::Pieces::of_parts, sheet_heads::proofs::Many::many_refused))]
 fn parse_template(pieces: TemplatePieces<'_>) -> DynamicArgument<'_>
-    ensures { (source : List ℕ) (levels : ℕ) (ps : Pieces) (u : List ℕ)
+    ensures value { (source : List ℕ) (levels : ℕ) (ps : Pieces) (u : List ℕ)
         → many [] piece (pieces.entry.holes + 1) pieces.entry.bytes.now ≡ ok ps u
         → Stands source levels result (of_pieces ps) (replaced_in (one_piece ps)) }
+    ensures parts { ArgumentWithin pieces.entry.bytes.now result }
 {
     if pieces.holes == 0 {
         return match read_piece(pieces.bytes) {
@@ -49,9 +50,10 @@ fn parse_template(pieces: TemplatePieces<'_>) -> DynamicArgument<'_>
 
 // The argument whose node is at the front of some bytes, with so many levels left, its own among them.
 pub fn parse_argument<'a>(source: &[u8], s: &'a [u8], levels: usize) -> DynamicArgument<'a>
-    ensures { (n : Node) (t : List ℕ)
+    ensures value { (n : Node) (t : List ℕ)
         → node source.now levels s.now ≡ ok n t
         → Stands source.now levels result (argument_of n) (replaced_in (single_text (shape n))) }
+    ensures parts { ArgumentWithin s.now result }
 {
     match read_expression(source, s, levels) {
         Expression::String { text, .. } => DynamicArgument::String(text),

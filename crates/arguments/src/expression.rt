@@ -25,7 +25,7 @@ pub fn read_expression<'a>(source: &[u8], s: &'a [u8], levels: usize) -> Express
         ((n : Node) (t : List ℕ)
         → node source.now levels s.now ≡ ok n t
         → ExpressionIs (node source.now (levels - 1)) result n t)
-        (ExpressionWithin levels result) }
+        (ExpressionWithin s.now levels result) }
 {
     let Ok(((_, head), next)) = read_head(source, s, levels) else {
         return Expression::Other;

@@ -7,7 +7,7 @@ use Rattle.std.specs.Ordering.{is_eq, is_le}
 use Rattle.std.specs.declared.cmp.Ordering.{Ordering}
 use Rattle.std.specs.declared.cmp.Ordering.TheVariants.{Less, Equal, Greater}
 use Rattle.std.proofs.lemmas.List.{length-map}
-use Rattle.laws.specs.code.Told.{Told}
+use Rattle.laws.specs.{Codec.All, code.Told.Told}
 use Rattle.text.specs.Bytes.{order}
 use Rattle.report.specs.ModuleInfo.{KeyValue}
 use Rattle.attributes.specs.Attributes.{placed, insert}
@@ -75,3 +75,14 @@ insert_length a (b ∷ pairs) = by_order (order a.key b.key) (insert_length a pa
     by_order Less h = omega arith
     by_order Equal h = omega arith
     by_order Greater h = omega arith
+
+-- what holds of all pairs and of one more
+pub insert_all : (P : KeyValue → Type 0) (a : KeyValue) (pairs : List KeyValue) → P a → All P pairs → All P (insert a pairs)
+unfolding insert
+insert_all P a [] h p = (h, tt)
+insert_all P a (b ∷ pairs) h p = by_order (order a.key b.key) (insert_all P a pairs h p.1)
+  where
+    by_order : (o : Ordering) → All P (insert a pairs) → All P (placed o a b pairs (insert a pairs))
+    by_order Less q = (h, p)
+    by_order Equal q = (h, p.1)
+    by_order Greater q = (p.0, q)

@@ -9,3 +9,4 @@ pub mod Keys
 pub mod Ascending
 pub mod ReadingsRight
 pub mod Cases
+pub mod Parts

@@ -7,7 +7,7 @@ ghost use Rattle.sheet.specs.Nodes.{node};
 ghost use Rattle.sheet.specs.Shape.{shape};
 ghost use Rattle.attributes.specs.Attributes.{value_of};
 ghost use Rattle.attributes.specs.code.Rows.{pair_as};
-ghost use Rattle.attributes.specs.code.Views.{ValueIs, ValueWithin, prop_in, PropIs};
+ghost use Rattle.attributes.specs.code.Views.{ValueIs, ValueWithin, KnownIn, prop_in, PropIs, PropIn};
 
 use super::pairs::Pair;
 use sheet_heads::node::{Head, read_head};
@@ -36,7 +36,7 @@ pub struct Keyed<'a> {
 pub fn read_value<'a>(source: &[u8], s: &'a [u8], levels: usize) -> Value<'a>
     ensures { Bounded
         ((v : Node) (t : List ℕ) → node source.now levels s.now ≡ ok v t → ValueIs source.now (levels - 1) result (shape v))
-        (ValueWithin levels result) }
+        (ValueWithin s.now levels result) }
 {
     let Ok(((_, head), next)) = read_head(source, s, levels) else {
         return Value::Other;
@@ -50,7 +50,9 @@ pub fn read_value<'a>(source: &[u8], s: &'a [u8], levels: usize) -> Value<'a>
 
 // The pair of a key and its value.
 pub fn read_pair<'a>(source: &[u8], k: Keyed<'a>, levels: usize) -> Pair<'a>
-    ensures { (v : Node) (t : List ℕ)
+    ensures key { result.key ≡ k.entry.key }
+    ensures known { KnownIn k.entry.value.now (pair_as result).value }
+    ensures value { (v : Node) (t : List ℕ)
         → node source.now levels k.entry.value.now ≡ ok v t
         → pair_as result ≡ record { key = k.entry.key.now; value = value_of (shape v) } }
 {
@@ -75,7 +77,8 @@ fn prop_of<'a>(p: Property<'a>, value: &'a [u8]) -> Option<Keyed<'a>>
 // The property that stands first, with so many levels left for its nodes.
 #[tactic(auto, using(laws::proofs::Decoding::on_ok_ok, sheet_heads::proofs::ByHead::property_by_head, crate::proofs::Seen::prop_is))]
 pub fn read_prop<'a>(source: &[u8], s: &'a [u8], levels: usize) -> ReadResult<'a, Option<Keyed<'a>>>
-    ensures { PropIs (node source.now levels) s.now result }
+    ensures value { PropIs (node source.now levels) s.now result }
+    ensures parts { PropIn s.now result }
 {
     let (p, value) = read_property(s)?;
     let (_, next) = check_property(source, s, levels)?;

@@ -1,6 +1,7 @@
 // The three readings of attributes of src/ast/dep.rs.
-ghost use Rattle.std.specs.Prelude.{◌≡◌, Bool, false, not, ◌&&◌, List, [], ℕ, ◌≤◌};
+ghost use Rattle.std.specs.Prelude.{◌≡◌, Bool, true, false, not, ◌&&◌, List, [], ℕ, ◌≤◌};
 ghost use Rattle.std.specs.Fn.{FnReturnsAt};
+ghost use Rattle.laws.specs.Codec.{All};
 ghost use Rattle.laws.specs.Decoded.{ok};
 ghost use Rattle.laws.specs.Ascii.{ascii};
 ghost use Rattle.text.specs.Bytes.{same};
@@ -11,7 +12,7 @@ ghost use Rattle.sheet.specs.Shape.{shape};
 ghost use Rattle.report.specs.ModuleInfo.{KeyValue, none};
 ghost use Rattle.attributes.specs.Attributes.{props, static_pairs, static_attributes, object_attributes, type_attributes, of_object};
 ghost use Rattle.attributes.specs.Attributes.{argument_properties, dynamic_attributes, is_attributes_key};
-ghost use Rattle.attributes.specs.code.Views.{attributes_as, known_if, object_in, Tests, kept, all_keyed};
+ghost use Rattle.attributes.specs.code.Views.{attributes_as, known_if, object_in, Tests, kept, all_keyed, PairIn, AttributesIn, AttributesInObject};
 
 use super::pairs::{Pair, Pairs};
 use super::props::{Value, read_pair, read_prop, read_value};
@@ -32,9 +33,10 @@ pub fn parse_import_attributes<'t, 'a>(
     levels: usize,
     pairs: &'t mut Pairs<'a>,
 ) -> ImportAttributes<'t, 'a>
-    ensures { (a : Attributes) (t u : List ℕ)
+    ensures value { (a : Attributes) (t u : List ℕ)
         → object_in (attributes_object source.now levels) object.entry u ≡ ok a t
         → attributes_as result ≡ static_attributes a }
+    ensures parts { AttributesInObject object.entry (attributes_as result) }
 {
     let Some(s) = object else {
         return ImportAttributes::None;
@@ -75,6 +77,7 @@ fn parse_import_attributes_from_object_lit<'a, F: Fn(&Pair<'a>) -> bool>(
         → properties (node source.now levels) count s.now ≡ ok ps t
         → (stops && not result) ≡ false
         → pairs.new ≡ kept f [] (props ps) }
+    ensures parts { All (PairIn s.now) pairs.new }
 {
     let mut at = s;
     let mut all_keyed = true;
@@ -106,25 +109,18 @@ pub fn parse_type_attributes<'t, 'a>(
     levels: usize,
     pairs: &'t mut Pairs<'a>,
 ) -> ImportAttributes<'t, 'a>
-    ensures { (a : Attributes) (t u : List ℕ)
+    ensures value { (a : Attributes) (t u : List ℕ)
         → object_in (attributes_object source.now levels) object.entry u ≡ ok a t
         → attributes_as result ≡ type_attributes a }
+    ensures parts { AttributesInObject object.entry (attributes_as result) }
 {
     let Some(s) = object else {
         return ImportAttributes::None;
     };
-    let Ok(((_, count), next)) = read_attributes(source, s, levels) else {
+    let Ok(((_, n), next)) = read_attributes(source, s, levels) else {
         return ImportAttributes::Unknown;
     };
-    if parse_import_attributes_from_object_lit(
-        source,
-        next,
-        count,
-        levels - 1,
-        true,
-        |_| true,
-        pairs,
-    ) {
+    if parse_import_attributes_from_object_lit(source, next, n, levels - 1, true, |_| true, pairs) {
         ImportAttributes::Known(pairs)
     } else {
         ImportAttributes::Unknown
@@ -134,9 +130,10 @@ pub fn parse_type_attributes<'t, 'a>(
 // The value of `with` or `assert`, read into the table: is it an Object, and can each key be read?
 #[tactic(auto, using(crate::proofs::Kept::all_read))]
 fn parse_nested<'a>(source: &[u8], s: &'a [u8], levels: usize, pairs: &mut Pairs<'a>) -> bool
-    ensures { (v : Node) (t : List ℕ)
+    ensures value { (v : Node) (t : List ℕ)
         → node source.now levels s.now ≡ ok v t
         → known_if result pairs.new ≡ of_object (object_attributes []) (shape v) }
+    ensures parts { result ≡ true → All (PairIn s.now) pairs.new }
 {
     match read_value(source, s, levels) {
         Value::Text(_) | Value::Other => false,
@@ -177,9 +174,10 @@ fn parse_argument_properties<'t, 'a>(
     levels: usize,
     pairs: &'t mut Pairs<'a>,
 ) -> ImportAttributes<'t, 'a>
-    ensures { (ps : Properties) (t : List ℕ)
+    ensures value { (ps : Properties) (t : List ℕ)
         → properties (node source.now levels) count s.now ≡ ok ps t
         → attributes_as result ≡ argument_properties false none (props ps) }
+    ensures parts { AttributesIn s.now (attributes_as result) }
 {
     let mut at = s;
     let mut had_attributes_key = false;
@@ -213,9 +211,10 @@ pub fn parse_dynamic_import_attributes<'t, 'a>(
     levels: usize,
     pairs: &'t mut Pairs<'a>,
 ) -> ImportAttributes<'t, 'a>
-    ensures { (xs : Arguments) (t : List ℕ)
+    ensures value { (xs : Arguments) (t : List ℕ)
         → arguments (node source.now levels) source.now count s.now ≡ ok xs t
         → attributes_as result ≡ dynamic_attributes xs }
+    ensures parts { AttributesIn s.now (attributes_as result) }
 {
     if count == 0 {
         return ImportAttributes::None;

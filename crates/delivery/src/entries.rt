@@ -1,7 +1,7 @@
 // The entries of a module, judged in the report of its sheet.
 ghost use Rattle.std.specs.Prelude.{◌≡◌, not, ◌&&◌, IfSome};
 ghost use Rattle.sheet.specs.Shape.{is_relative};
-ghost use Rattle.report_reader.specs.code.FromFront.{EndOf, PartOf};
+ghost use Rattle.laws.specs.code.Among.{EndOf, PartOf};
 ghost use Rattle.delivery.specs.Asks.{left_out};
 ghost use Rattle.delivery.specs.Order.{among};
 ghost use Rattle.delivery.specs.Right.{names_of};

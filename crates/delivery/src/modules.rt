@@ -2,7 +2,8 @@
 ghost use Rattle.std.specs.Prelude.{◌≡◌, [], ◌++◌, length};
 ghost use Rattle.wire.specs.code.Views.{text_as, read_with};
 ghost use Rattle.report.specs.Decode.{text, times};
-ghost use Rattle.report_reader.specs.code.FromFront.{ReadsBack, EndOf, PartOf};
+ghost use Rattle.laws.specs.code.Among.{EndOf, PartOf};
+ghost use Rattle.report_reader.specs.code.FromFront.{ReadsBack};
 ghost use Rattle.delivery.specs.Delivery.{named_sheet, encode_module};
 ghost use Rattle.delivery.specs.Order.{among, repeated};
 ghost use Rattle.delivery.specs.Right.{names_of};
@@ -22,7 +23,7 @@ pub struct ModuleRead<'a> {
 }
 
 // A module, and the bytes behind it.
-#[tactic(auto, using(report_reader::proofs::Parts::ends, report_reader::proofs::Parts::part_front), unfolding(crate::specs::Delivery::encode_module))]
+#[tactic(auto, using(laws::proofs::Among::ends, laws::proofs::Among::part_front), unfolding(crate::specs::Delivery::encode_module))]
 pub fn read_module(s: &[u8]) -> (ModuleRead<'_>, &[u8])
     ensures answer { ReadsBack encode_module ValidModule s.now (module_as result.0) result.1.now }
     ensures name { PartOf result.0.name.now s.now }

@@ -44,6 +44,7 @@ pub fn word<'a>(s: &'a [u8], word: &[u8]) -> Option<&'a [u8]>
 
 // From the first `mark` on.
 #[tactic(auto, using(std::proofs::lemmas::Slice::between_to_end, crate::proofs::Steps::first_found, crate::proofs::Steps::first_missing))]
+#[inline(always)]
 pub fn from_first(s: &[u8], mark: u8) -> Option<&[u8]>
     ensures value { option_map (λ t. t.now) result ≡ from_first mark s.now }
     ensures there { IfThere (λ t. (0 < length t.now) × (length t.now ≤ length s.now)) result }

@@ -54,6 +54,7 @@ module _ {s : List ℕ} {p : Parts} (a : Accepts s p) where
     comments = a.comments;
     groups = a.groups;
     root = ((root_codec s a.accepted).sound _ _ _ a.root).0 ∙ append-nil _;
+    root_place = a.root_place;
     count = a.entries;
   }
 
@@ -84,6 +85,7 @@ module _ {s : List ℕ} {t : Sheet} {p : Parts} (e : accept s ≡ ok t []) (h : 
         comments = h.comments;
         groups = h.groups;
         root = rw (h.root, ← append-nil (encode_node t.root)) ((root_codec s e).complete t.root (within s e).root []);
+        root_place = h.root_place;
         count = h.count;
         reaches = reaches;
       }

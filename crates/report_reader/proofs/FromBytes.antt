@@ -10,7 +10,8 @@ use Rattle.wire.specs.Number.{largest, number, encode_groups, encode_number}
 use Rattle.report.specs.declared.names.ArgumentKind.TheVariants as arguments
 use Rattle.report.specs.ModuleInfo.{DynamicTemplatePart, DynamicArgument, expr, string, template}
 use Rattle.report.specs.{code.Kinds.argument_kinds, Encode.encode_list, Encode.encode_argument, Valid.Short}
-use Rattle.report_reader.specs.code.FromFront.{ReadsBack, Skips, EndOf, Number, Flag}
+use Rattle.laws.specs.code.Among.{EndOf}
+use Rattle.report_reader.specs.code.FromFront.{ReadsBack, Skips, Number, Flag}
 
 -- a number, as the wire's reader answers it
 module _ (s : List ℕ) where

@@ -2,7 +2,8 @@
 ghost use Rattle.std.specs.Prelude.{IfSome};
 ghost use Rattle.report.specs.Encode.{encode_argument};
 ghost use Rattle.report.specs.Valid.{ValidArgument};
-ghost use Rattle.report_reader.specs.code.FromFront.{Skips, EndOf, PartOf};
+ghost use Rattle.laws.specs.code.Among.{EndOf, PartOf};
+ghost use Rattle.report_reader.specs.code.FromFront.{Skips};
 ghost use Rattle.report_reader.specs.code.Dependencies.{ReadsDependency};
 
 use super::fields::{
@@ -19,7 +20,7 @@ pub struct StaticRead<'a> {
 }
 
 // Skips the argument of a dynamic dependency.
-#[tactic(auto, using(crate::proofs::Parts::ends))]
+#[tactic(auto, using(laws::proofs::Among::ends))]
 fn skip_argument(s: &[u8]) -> &[u8]
     ensures answer { Skips encode_argument ValidArgument s.now result.now }
     ensures rest { EndOf result.now s.now }

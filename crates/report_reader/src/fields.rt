@@ -10,7 +10,8 @@ ghost use Rattle.report.specs.Encode.{encode_list, encode_position, encode_range
 ghost use Rattle.report.specs.Encode.{encode_key_value, encode_attributes};
 ghost use Rattle.report.specs.Valid.{Short, ValidPosition, ValidRange, ValidSpecifier};
 ghost use Rattle.report.specs.Valid.{ValidKeyValue, ValidAttributes};
-ghost use Rattle.report_reader.specs.code.FromFront.{ReadsBack, Skips, EndOf, Number, Flag};
+ghost use Rattle.laws.specs.code.Among.{EndOf};
+ghost use Rattle.report_reader.specs.code.FromFront.{ReadsBack, Skips, Number, Flag};
 
 use report::names::AttributesKind;
 use text::position::Position;
@@ -52,7 +53,7 @@ pub fn read_text(s: &[u8]) -> (&[u8], &[u8])
 }
 
 // A position: its line and its column.
-#[tactic(auto, using(crate::proofs::Parts::ends), unfolding(report::specs::Encode::encode_position))]
+#[tactic(auto, using(laws::proofs::Among::ends), unfolding(report::specs::Encode::encode_position))]
 fn read_position(s: &[u8]) -> (Position, &[u8])
     ensures answer { ReadsBack encode_position ValidPosition s.now result.0 result.1.now }
     ensures bounds { ValidPosition result.0 }
@@ -64,7 +65,7 @@ fn read_position(s: &[u8]) -> (Position, &[u8])
 }
 
 // A range: the positions of its start and its end.
-#[tactic(auto, using(crate::proofs::Parts::ends), unfolding(report::specs::Encode::encode_range))]
+#[tactic(auto, using(laws::proofs::Among::ends), unfolding(report::specs::Encode::encode_range))]
 pub fn read_range(s: &[u8]) -> (PositionRange, &[u8])
     ensures answer { ReadsBack encode_range ValidRange s.now (record { start = result.0.start; end = result.0.end }) result.1.now }
     ensures rest { EndOf result.1.now s.now }
@@ -96,7 +97,7 @@ impl Element for Text {
 
     ghost Valid = { Short };
 
-    #[tactic(auto, using(crate::proofs::Parts::ends))]
+    #[tactic(auto, using(laws::proofs::Among::ends))]
     fn skip(s: &[u8]) -> &[u8] {
         let (_, next) = read_text(s);
         next
@@ -113,7 +114,7 @@ impl Element for Specifier {
 
     ghost Valid = { ValidSpecifier };
 
-    #[tactic(auto, using(crate::proofs::Parts::ends), unfolding(report::specs::Encode::encode_specifier))]
+    #[tactic(auto, using(laws::proofs::Among::ends), unfolding(report::specs::Encode::encode_specifier))]
     fn skip(s: &[u8]) -> &[u8] {
         let (_, next) = read_text(s);
         let (_, next) = read_range(next);
@@ -131,7 +132,7 @@ impl Element for Attribute {
 
     ghost Valid = { ValidKeyValue };
 
-    #[tactic(auto, using(crate::proofs::Parts::ends), unfolding(report::specs::Encode::encode_key_value))]
+    #[tactic(auto, using(laws::proofs::Among::ends), unfolding(report::specs::Encode::encode_key_value))]
     fn skip(s: &[u8]) -> &[u8] {
         let (_, next) = read_text(s);
         skip_optional::<Text>(next)
@@ -154,7 +155,7 @@ impl Element for TemplatePart {
 }
 
 // Skips an element if it is there.
-#[tactic(auto, using(crate::proofs::Parts::ends))]
+#[tactic(auto, using(laws::proofs::Among::ends))]
 pub fn skip_optional<E: Element>(s: &[u8]) -> &[u8]
     ensures answer { Skips (encode_optional E.encode) (IfThere E.Valid) s.now result.now }
     ensures rest { EndOf result.now s.now }
@@ -164,7 +165,7 @@ pub fn skip_optional<E: Element>(s: &[u8]) -> &[u8]
 }
 
 // Skips so many elements.
-#[tactic(auto, using(crate::proofs::Parts::end_whole))]
+#[tactic(auto, using(laws::proofs::Among::end_whole))]
 fn skip_elements<E: Element>(s: &[u8], count: usize) -> &[u8]
     ensures answer { Skips (flat_map E.encode) (λ l. (length l ≡ count) × All E.Valid l) s.now result.now }
     ensures rest { EndOf result.now s.now }
@@ -177,7 +178,7 @@ fn skip_elements<E: Element>(s: &[u8], count: usize) -> &[u8]
 }
 
 // Skips a list.
-#[tactic(auto, using(crate::proofs::Parts::ends), unfolding(report::specs::Encode::encode_list))]
+#[tactic(auto, using(laws::proofs::Among::ends), unfolding(report::specs::Encode::encode_list))]
 pub fn skip_list<E: Element>(s: &[u8]) -> &[u8]
     ensures answer { Skips (encode_list E.encode) (λ l. Short l × All E.Valid l) s.now result.now }
     ensures rest { EndOf result.now s.now }
@@ -186,7 +187,7 @@ pub fn skip_list<E: Element>(s: &[u8]) -> &[u8]
     skip_elements::<E>(next, count)
 }
 
-#[tactic(auto, using(crate::proofs::Parts::ends))]
+#[tactic(auto, using(laws::proofs::Among::ends))]
 pub fn skip_attributes(s: &[u8]) -> &[u8]
     ensures answer { Skips encode_attributes ValidAttributes s.now result.now }
     ensures rest { EndOf result.now s.now }

@@ -39,7 +39,7 @@ module _ {P : (A : Type 0) → Decoder A → Type 0} (h : OfFields P) where
     unfolding end_from
     end_kept start = then position_kept (λ p. test kept (leb start p) six (ends p))
 
-    span_kept : P Span (span source)
+    pub span_kept : P Span (span source)
     unfolding span
     span_kept = then position_kept (λ start. then (end_kept start) (λ p. ends _))
 
@@ -64,7 +64,7 @@ module _ {P : (A : Type 0) → Decoder A → Type 0} (h : OfFields P) where
   many_kept end p zero = ends end
   many_kept end p (suc k) = then p (λ add. changed add (many_kept end p k))
 
-  tag_kept : (allowed : ℕ → Bool) (levels : ℕ) → P ℕ (tag allowed levels)
+  pub tag_kept : (allowed : ℕ → Bool) (levels : ℕ) → P ℕ (tag allowed levels)
   unfolding tag
   tag_kept allowed levels = then a_byte (λ t. test kept (allowed t) three (test kept (ltb 0 levels) four (ends t)))
 
@@ -99,11 +99,14 @@ module _ {P : (A : Type 0) → Decoder A → Type 0} (h : OfFields P) where
         (next (then (text_kept h Utf8 text_limit) (λ k. then p (λ v. ends _))) done)))
         kind three
 
+    pub property_kept : P (Properties → Properties) (property_item inner)
+    unfolding property_item
+    property_kept =
+        then a_byte (λ kind. at_index kept (next (then p (λ n. ends _)) (next (then p (λ n. ends _)) (next (then a_byte keyed_kept) done))) kind three)
+
     properties_kept : (k : ℕ) → P Properties (properties inner k)
-    unfolding properties property_item
-    properties_kept k =
-        many_kept _ (then a_byte (λ kind.
-        at_index kept (next (then p (λ n. ends _)) (next (then p (λ n. ends _)) (next (then a_byte keyed_kept) done))) kind three)) k
+    unfolding properties
+    properties_kept k = many_kept _ property_kept k
 
   -- what follows a tag and a span
   module _ (source : List ℕ) (levels : ℕ) {inner : Decoder Node} {object : Decoder Attributes} (p : P Node inner) (q : P Attributes object) (sp : Span) where
@@ -143,7 +146,7 @@ module _ {P : (A : Type 0) → Decoder A → Type 0} (h : OfFields P) where
     mutual
       unfolding node attributes_object
 
-      node_kept : (levels : ℕ) → P Node (node source levels)
+      pub node_kept : (levels : ℕ) → P Node (node source levels)
       node_kept zero = then (tag_kept _ 0) (λ t. refuses four)
       node_kept (suc d) = then (tag_kept _ (suc d)) (λ t. then (span_kept source) (λ sp. fields_kept source d (node_kept d) (object_kept d) sp t))
 

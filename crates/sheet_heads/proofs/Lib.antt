@@ -7,3 +7,4 @@ pub mod Many
 pub mod Pieces
 pub mod FirstArgument
 pub mod Tests
+pub mod Found

@@ -1,6 +1,6 @@
 -- From the mask of one load to the first byte that passes a test.
-use Rattle.laws.proofs.Prelude.{◌≡◌, ◌∙◌, ap, sym, Bool, false, true, not, cond, eqb, List, map, ℕ, ◌+◌, ◌≤◌, ◌<◌, ◌%◌, length}
-use Rattle.std.proofs.lemmas.Simd.{length-chunk, bitmask_splat, first_set_mask_l, run_in_chunk_le, run_in_chunk_fails, run_in_chunk_stops}
+use Rattle.laws.proofs.Prelude.{◌≡◌, ◌∙◌, ap, Bool, cond, eqb, List, map, ℕ, ◌+◌, ◌≤◌, length}
+use Rattle.std.proofs.lemmas.Simd.{length-chunk, first_set_mask_l, run_in_chunk_le, run_in_chunk_fails, run_in_chunk_stops}
 use lib.Count.{count_trailing_zeros}
 use lib.Lanes.{chunk, mask_l}
 use Rattle.text.specs.code.Places.{Before}

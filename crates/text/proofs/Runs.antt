@@ -1,8 +1,9 @@
 -- The longest run of characters that pass a test, from one character to the next; and that of a class.
-use Rattle.laws.proofs.Prelude.{◌≡◌, refl, Bool, List, [], ◌∷◌, ℕ, zero, suc, ◌+◌, ◌≤◌, not-suc-le-zero, le_of_suc-le-suc, arith, length, drop}
+use Rattle.laws.proofs.Prelude.{◌≡◌, refl, Bool, true, List, [], ◌∷◌, ℕ, zero, suc, ◌+◌, ◌<◌, ◌≤◌, not-suc-le-zero, le_of_suc-le-suc, arith}
+use Rattle.laws.proofs.Prelude.{length, get_or, drop, drop-cons, drop-drop}
 use Rattle.text.specs.{declared.class.Class.Class, declared.utf8.Encoding.TheVariants.Utf8, Utf8.char_at}
 use Rattle.text.specs.Class.{member, length_if, run_if, class_at, run, run_length}
-use Rattle.text.proofs.Formed.{fits_if}
+use Rattle.text.proofs.{Formed.fits_if, Ascii.ascii_if}
 
 module _ (test : ℕ → Bool) where
   -- a character that passes has no more bytes than the text
@@ -26,6 +27,13 @@ module _ (test : ℕ → Bool) where
   if_goes_on s {n = zero} e z = absurd (z refl)
   if_goes_on [] {n = suc n} e z = absurd (omega (arith, if_fits []))
   if_goes_on (x ∷ s) {n = suc n} e z = rw (← e) (omega (arith, skipped n s (omega (arith, if_fits (x ∷ s)))))
+
+  -- a byte of ASCII that passes, and then the run behind it
+  pub ascii_goes_on : (s : List ℕ) (i : ℕ) → i < length s → get_or s i 0 < 128 → true ≡ test (get_or s i 0)
+      → run_if test 0 (drop i s) ≡ 1 + run_if test 0 (drop (i + 1) s)
+  ascii_goes_on s i l h e =
+      let one : 1 ≡ length_if test (drop i s) = rw (drop-cons s i 0 l) (ascii_if test (get_or s i 0 ∷ drop (suc i) s) (omega arith) h e) in
+      rw drop-drop at (if_goes_on (drop i s) one (λ z. omega arith))
 
 module _ (c : Class) where
   pub class_fits : (s : List ℕ) → class_at c s ≤ length s

@@ -6,6 +6,9 @@ ghost use Rattle.text.specs.code.Places.{Passing, First, Before};
 use super::blocks::{skip_blocks, skip_while};
 use std::simd::prelude::*;
 
+// So many bytes are looked at one by one.
+const NEAR: usize = 8;
+
 // The byte at a place, 0 past the end.
 pub fn byte_at(s: &[u8], i: usize) -> u32
     ensures { Bounded (result ≡ get_or s.now i 0) (result < 256) }
@@ -29,13 +32,22 @@ fn before_in_block(s: &[u8], at: usize, b: u8) -> usize
     }
 }
 
-// The first place of `b` from `at` on.
+// The first place of `b` from `at` on. The nearest bytes are looked at one by one: where the marks stand close to each other, a branch for each is
+// foretold, and a place that is counted out of a mask is waited for.
 pub fn next_of(s: &[u8], at: usize, b: u8) -> Option<usize>
     requires { at ≤ length s.now }
     ensures { MatchOption result (First b s.now at (length s.now))
         (λ k. First b s.now at k × (k < length s.now)) }
 {
     let mut i = at;
+    if NEAR <= s.len() - at {
+        for k in at..at + NEAR {
+            if s[k] == b {
+                return Some(k);
+            }
+        }
+        i = at + NEAR;
+    }
     while 32 <= s.len() - i {
         let k = before_in_block(s, i, b);
         if k < 32 {

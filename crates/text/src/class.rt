@@ -61,6 +61,21 @@ fn length_if<F: Fn(u32) -> bool>(s: &[u8], test: &F) -> usize
     }
 }
 
+// The end of the longest run of ASCII that passes, from `at` on: the rest of the run of any characters begins there.
+#[inline(always)]
+fn ascii_end_if<F: Fn(u32) -> bool>(s: &[u8], at: usize, test: &F) -> usize
+    requires callable { F.IsAlwaysCallable test.now }
+    requires place { at ≤ length s.now }
+    ensures rest { ByTest (F.post test.now) λ p. at + run_if p 0 (drop at s.now) ≡ result + run_if p 0 (drop result s.now) }
+    ensures place { (at ≤ result) × (result ≤ length s.now) }
+{
+    let mut i = at;
+    while i < s.len() && s[i] < 0x80 && test(u32::from(s[i])) {
+        i += 1;
+    }
+    i
+}
+
 // The end of the longest run of characters that pass, from `at` on.
 pub fn run_end_if<F: Fn(u32) -> bool>(s: &[u8], at: usize, test: &F) -> usize
     requires callable { F.IsAlwaysCallable test.now }
@@ -69,6 +84,7 @@ pub fn run_end_if<F: Fn(u32) -> bool>(s: &[u8], at: usize, test: &F) -> usize
 {
     let mut i = at;
     loop {
+        i = ascii_end_if(s, i, test);
         let n = length_if(&s[i..], test);
         if n == 0 {
             return i;

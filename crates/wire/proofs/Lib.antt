@@ -8,3 +8,4 @@ pub mod Numbered
 pub mod Kept
 pub mod Cases
 pub mod RefusalNumbers
+pub mod Found

@@ -5,6 +5,7 @@ use mathlib.Core.List.{List, [], flat_map}
 use Rattle.std.specs.Prelude.{None, Option, Some, option_map}
 use Rattle.laws.specs.Codec.{IfThere}
 use Rattle.laws.specs.Decoded.{ok, Decoder}
+use Rattle.laws.specs.code.Among.{EndOf, PartOf}
 use Rattle.text.specs.Lossy.{lossy, replaced}
 use Rattle.wire.specs.Text.{encode_text}
 use Rattle.wire.specs.Optional.{encode_optional}
@@ -67,12 +68,12 @@ ExpressionIs inner (expression.Template pieces) n t = IsTemplate pieces.holes pi
 ExpressionIs inner (expression.Plus next) n t = IsPlus inner next.now n t
 ExpressionIs inner expression.Other n t = Unknown n
 
--- a level was left for the node
-abbrev pub ExpressionWithin : ℕ → Expression → Type 0
-ExpressionWithin levels (expression.String text next) = 0 < levels
-ExpressionWithin levels (expression.Template pieces) = 0 < levels
-ExpressionWithin levels (expression.Plus next) = 0 < levels
-ExpressionWithin levels expression.Other = Unit {0}
+-- of any bytes s: a level was left for the node; a text is a part of them, and they end with the pieces
+abbrev pub ExpressionWithin : List ℕ → ℕ → Expression → Type 0
+ExpressionWithin s levels (expression.String text next) = (0 < levels) × PartOf text.now s
+ExpressionWithin s levels (expression.Template pieces) = (0 < levels) × EndOf pieces.bytes.now s
+ExpressionWithin s levels (expression.Plus next) = 0 < levels
+ExpressionWithin s levels expression.Other = Unit {0}
 
 -- how many parts a chain has, and what stands behind it; or it is none
 abbrev pub parts_as : Option (ℕ × Bor (List ℕ)) → Option (ℕ × List ℕ)
@@ -97,3 +98,10 @@ Stands source levels (argument.Chain k s) v replacements =
     ((n : Node) × (t : List ℕ) × (l : List DynamicTemplatePart)
     × (node source levels s.now ≡ ok n t) × (chain n ≡ Some l) × (length l ≡ k) × (v ≡ info.template l))
     × (replacements ≡ 0)
+
+-- of any bytes s: a text is a part of them
+abbrev pub ArgumentWithin : List ℕ → DynamicArgument → Type 0
+ArgumentWithin s argument.Expr = Unit {0}
+ArgumentWithin s (argument.String text) = PartOf text.now s
+ArgumentWithin s (argument.Template k pieces) = Unit {0}
+ArgumentWithin s (argument.Chain k x) = Unit {0}

@@ -4,10 +4,12 @@ use Rattle.std.specs.Prelude.{Option, None, Some, Result, Ok, Err}
 use Rattle.std.specs.Bool.{then_some}
 use Rattle.std.specs.Borrow.{Bor}
 use Rattle.std.specs.List as list
+use Rattle.laws.specs.Codec.{All, IfThere}
 use Rattle.laws.specs.Decoded.{Decoded, ok, no, Decoder}
+use Rattle.laws.specs.code.Among.{EndOf, PartOf}
 use Rattle.text.specs.Lossy.{exact}
 use Rattle.wire.specs.Refusals.{number_of}
-use Rattle.wire.specs.code.Views.{ReadResult}
+use Rattle.wire.specs.code.Views.{ReadResult, PastWith}
 use Rattle.sheet.specs.Limits.{property_limit}
 use Rattle.sheet.specs.Tree.{Node, Properties, Attributes, without}
 use Rattle.sheet.specs.Nodes.{node, property_item}
@@ -15,7 +17,7 @@ use Rattle.sheet.specs.Nodes as nodes
 use Rattle.sheet.specs.Shape.{Shape, text, named, pieces, operation, properties, anything, shape}
 use Rattle.sheet_heads.specs.declared.parts.Property.{Property}
 use Rattle.sheet_heads.specs.declared.parts.Property.TheVariants as property
-use Rattle.report.specs.ModuleInfo.{KeyValue, none, unknown, known}
+use Rattle.report.specs.ModuleInfo.{ImportAttribute, KeyValue, none, unknown, known}
 use Rattle.report.specs.ModuleInfo as info
 use Rattle.attributes.specs.declared.props.Value.{Value}
 use Rattle.attributes.specs.declared.props.Value.TheVariants as value
@@ -86,11 +88,37 @@ ValueIs source levels (value.Object n s) x =
     (ps : Properties) × (t : List ℕ) × (x ≡ properties ps) × (nodes.properties (node source levels) n s.now ≡ ok ps t)
 ValueIs source levels value.Other x = is_other x ≡ true
 
--- below an Object a level was left, and it has not too many properties
-abbrev pub ValueWithin : ℕ → Value → Type 0
-ValueWithin levels (value.Text s) = Unit {0}
-ValueWithin levels (value.Object n s) = (0 < levels) × (n ≤ property_limit)
-ValueWithin levels value.Other = Unit {0}
+-- of any bytes s: a text is a part of them; below an Object a level was left, it has not too many properties, and they are what s ends with
+abbrev pub ValueWithin : List ℕ → ℕ → Value → Type 0
+ValueWithin s levels (value.Text x) = PartOf x.now s
+ValueWithin s levels (value.Object n x) = (0 < levels) × (n ≤ property_limit) × EndOf x.now s
+ValueWithin s levels value.Other = Unit {0}
+
+-- a value that is known is a part of s
+abbrev pub KnownIn : List ℕ → ImportAttribute → Type 0
+KnownIn s = IfThere (λ x. PartOf x s)
+
+-- a pair is made of parts of s
+abbrev pub PairIn : List ℕ → KeyValue → Type 0
+PairIn s a = PartOf a.key s × KnownIn s a.value
+
+-- so is each pair that is known
+abbrev pub AttributesIn : List ℕ → info.ImportAttributes → Type 0
+AttributesIn s none = Unit {0}
+AttributesIn s unknown = Unit {0}
+AttributesIn s (known l) = All (PairIn s) l
+
+-- the same of an Object that there may be
+abbrev pub AttributesInObject : Option (Bor (List ℕ)) → info.ImportAttributes → Type 0
+AttributesInObject object a = IfThere (λ (s : Bor (List ℕ)). AttributesIn s.now a) object
+
+-- a key that was read from s, with what is left at its value
+abbrev pub KeyIn : List ℕ → Option Keyed → Type 0
+KeyIn s = IfThere (λ (k : Keyed). PartOf k.key.now s × EndOf k.value.now s)
+
+-- a property that was read from any bytes s
+abbrev pub PropIn : List ℕ → ReadResult (Option Keyed) → Type 0
+PropIn s = PastWith (λ p next. KeyIn s p × EndOf next.now s)
 
 -- a property from its head, with what is left at its value
 abbrev pub prop_in : Property → Bor (List ℕ) → Option Keyed

@@ -17,7 +17,7 @@ use Rattle.sheet.specs.code.Tables.{comments_in, groups_in}
 use Rattle.sheet_codec.specs.Encode.{encode_node}
 use Rattle.sheet_nodes.specs.code.Reach.{ReachesIn}
 use Rattle.sheet_check.specs.declared.check.Parts.{Parts}
-use Rattle.sheet_check.specs.code.Views.{FoundAt}
+use Rattle.sheet_check.specs.code.Views.{FoundAt, EndsWith}
 use Rattle.sheet_check.specs.code.Accepts.{Accepts}
 use Rattle.report.specs.Encode.{encode_list, encode_specifier, encode_reference, encode_jsdoc, encode_dependency}
 use Rattle.pragmas.specs.Pragmas.{ts_references, self_types_specifier, jsx_import_source, jsx_import_source_types, source_map_url, types_at}
@@ -60,6 +60,7 @@ pub record PartsOf (t : Sheet) (s : List ℕ) (p : Parts) : Type 0 where
   pub comments : comments_in p.front.comments.now ≡ t.comments
   pub groups : groups_in p.front.groups.now ≡ t.groups
   pub root : node t.source depth_limit p.tree.root.now ≡ ok t.root []
+  pub root_place : EndsWith s p.tree.root.now
   pub count : entries t.root ≡ p.tree.entries
   pub reaches : ReachesIn p.tree.reach t.root
 
@@ -72,6 +73,7 @@ pub record HasParts (t : Sheet) (s : List ℕ) (p : Parts) : Type 0 where
   pub comments : comments_in p.front.comments.now ≡ t.comments
   pub groups : groups_in p.front.groups.now ≡ t.groups
   pub root : p.tree.root.now ≡ encode_node t.root
+  pub root_place : EndsWith s p.tree.root.now
   pub count : entries t.root ≡ p.tree.entries
 
 -- a sheet s is accepted with these parts, and has the index of its source's positions

@@ -1,6 +1,6 @@
--- What the code does with some bytes s, if the bytes of a valid value stand at their front: it finds those behind them, and the value. And what it does
--- with any bytes: it finds a part of them, and their end.
+-- What the code does with some bytes s, if the bytes of a valid value stand at their front: it finds those behind them, and the value.
 use Rattle.std.specs.Prelude.{◌≡◌, Bool, List, ◌++◌, ℕ, ◌≤◌}
+use Rattle.laws.specs.code.Among.{EndOf}
 use Rattle.wire.specs.Fields.{encode_flag}
 use Rattle.wire.specs.Number.{largest, encode_number}
 
@@ -12,17 +12,6 @@ module _ {A : Type 0} (encode : A → List ℕ) (Valid : A → Type 0) (s : List
   -- only the bytes behind it are found
   abbrev pub Skips : List ℕ → Type 0
   Skips next = (a : A) → Valid a → (t : List ℕ) → s ≡ encode a ++ t → next ≡ t
-
--- the bytes s end with next
-pub record EndOf (next s : List ℕ) : Type 0 where
-  pub front : List ℕ
-  pub among : s ≡ front ++ next
-
--- x stands in the bytes s
-pub record PartOf (x s : List ℕ) : Type 0 where
-  pub before : List ℕ
-  pub behind : List ℕ
-  pub among : s ≡ before ++ (x ++ behind)
 
 -- a number that can be written is read
 pub record Number (s : List ℕ) (value : ℕ) (next : List ℕ) : Type 0 where

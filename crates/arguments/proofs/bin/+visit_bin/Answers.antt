@@ -7,7 +7,7 @@ returns-in-String t c =
     let past = rw c.in-String.is at c.read_expression.ensures.bounds in
     record {
       answer = λ n u e. string_counted (rw c.in-String.is at (c.read_expression.ensures.answer n u e));
-      bounds = past;
+      bounds = past.0;
     }
 
 pub returns-in_err-n-in-Plus : goal.returns-in_err-n-in-Plus

@@ -1,6 +1,7 @@
 use Rattle.laws.proofs.Prelude.{refl, sym, ◌∙◌, ◌-◌, ◌≤◌, ◌<◌, arith}
 use Rattle.report.specs.{Encode.encode_dependency, Valid.ValidDependency}
-use Rattle.report_reader.proofs.{Lists.next_item, Lists.no_item, Parts.end_further, Parts.part_further}
+use Rattle.laws.proofs.Among.{end_further, part_further}
+use Rattle.report_reader.proofs.Lists.{next_item, no_item}
 use Rattle.delivery.specs.{Order.entries_in_turn, Right.names_of, code.Views.modules_in}
 use Rattle.delivery.proofs.{ReportEntries.entries_start, Turns.entry_here}
 use Rattle.delivery.proofs.entries.late_entry.Goals as goal

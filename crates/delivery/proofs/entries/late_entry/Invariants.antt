@@ -1,6 +1,7 @@
 use Rattle.laws.proofs.Prelude.{◌≡◌, List, ℕ, ◌-◌}
 use Rattle.report.specs.{ModuleInfo.DependencyDescriptor, ModuleInfo.ModuleInfo, Encode.encode_dependency, Encode.encode, Valid.ValidDependency, Valid.Valid}
-use Rattle.report_reader.{specs.code.FromFront.EndOf, proofs.Lists.Stand}
+use Rattle.laws.specs.code.Among.{EndOf}
+use Rattle.report_reader.proofs.Lists.{Stand}
 use Rattle.delivery.specs.{Order.Answer, Order.entries_in_turn, Right.names_of, code.Views.modules_in}
 use Rattle.delivery.proofs.entries.late_entry.Given as goal
 

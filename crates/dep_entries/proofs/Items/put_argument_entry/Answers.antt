@@ -20,7 +20,7 @@ returns-then-more-eq0 c =
       answer = λ dots n xs t u is are.
           rw (no_arguments_lem (node source a.levels) source a.more t (omega (arith, c.if-more-eq0.true)) are)
           (c.put_dynamic_entry.ensures.answer (argument_of n) (replaced_in (single_text (shape n)))
-          (rw c.source-source.ensures.value at c.parse_argument.ensures n t is));
+          (rw c.source-source.ensures.value at c.parse_argument.ensures.value n t is));
       left = c.put_dynamic_entry.ensures.left;
     }
 
@@ -32,7 +32,7 @@ returns-in-Ok c =
     record {
       answer = λ dots n xs t u is are.
           c.put_options_entry.ensures.answer (argument_of n) (replaced_in (single_text (shape n))) xs u
-          (rw c.source-source.ensures.value at c.parse_argument.ensures n t is)
+          (rw c.source-source.ensures.value at c.parse_argument.ensures.value n t is)
           (ap (arguments (node source a.levels) source a.more)
           (same_rest node_tally (node source a.levels a.s.now) is (told (rw c.source-source.ensures.value at c.check_node.ensures) c.in-Ok.is)) ∙ are);
       left = c.put_options_entry.ensures.left;

@@ -11,6 +11,6 @@ returns c =
     record {
       answer = λ b t u is. c.put_static_entry.ensures
           ∙ ap (λ x. with_entries (items_as a.self.now) (static_of a.comments.now a.dependency x))
-          (c.parse_type_attributes-attributes.ensures b t u (rw c.source-source.ensures.value is));
+          (c.parse_type_attributes-attributes.ensures.value b t u (rw c.source-source.ensures.value is));
       left = adds_keeps a.self.now c.put_static_entry.new.self _ c.put_static_entry.ensures;
     }

@@ -13,6 +13,6 @@ returns c =
     record {
       answer = λ b t is. c.put_static_entry.ensures
           ∙ ap (λ x. with_entries (items_as a.self.now) (static_of a.comments.now a.dependency x))
-          (c.parse_import_attributes-attributes.ensures b t [] (rw c.source-source.ensures.value is));
+          (c.parse_import_attributes-attributes.ensures.value b t [] (rw c.source-source.ensures.value is));
       left = adds_keeps a.self.now c.put_static_entry.new.self _ c.put_static_entry.ensures;
     }

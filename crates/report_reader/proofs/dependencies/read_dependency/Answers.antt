@@ -2,7 +2,8 @@ use Rattle.laws.proofs.Prelude.{refl, sym, append_assoc}
 use Rattle.report.specs.declared.names.DependencyKind.TheVariants.{Static, Dynamic}
 use Rattle.report.specs.ModuleInfo.{static, dynamic}
 use Rattle.report.specs.Encode.{encode_specifier, encode_static, encode_dynamic, encode_dependency}
-use Rattle.report_reader.proofs.{FromBytes.byte_read, Parts.end_further, Parts.end_behind, Parts.part_front}
+use Rattle.laws.proofs.Among.{end_further, end_behind, part_front}
+use Rattle.report_reader.proofs.FromBytes.{byte_read}
 use Rattle.report_reader.proofs.KindsTold.{small, told, apart, static_told}
 use Rattle.report_reader.proofs.dependencies.read_dependency.Goals as goal
 

@@ -1,5 +1,6 @@
 use Rattle.laws.proofs.Prelude.{arith}
-use Rattle.report_reader.proofs.{FromBytes.number_or, Parts.end_none}
+use Rattle.laws.proofs.Among.{end_none}
+use Rattle.report_reader.proofs.FromBytes.{number_or}
 use Rattle.report_reader.proofs.fields.read_number.Goals as goal
 
 pub returns : goal.returns

@@ -1,4 +1,5 @@
-use Rattle.report_reader.proofs.{FromBytes.text_or, Parts.end_whole, Parts.end_further, Parts.split_or}
+use Rattle.laws.proofs.Among.{end_whole, end_further}
+use Rattle.report_reader.proofs.{FromBytes.text_or, Parts.split_or}
 use Rattle.report_reader.proofs.fields.read_text.Goals as goal
 
 pub returns-clause-answer : goal.returns-clause-answer

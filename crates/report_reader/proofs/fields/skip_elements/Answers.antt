@@ -1,5 +1,6 @@
 use Rattle.laws.proofs.Prelude.{arith}
-use Rattle.report_reader.proofs.{Lists.skip_none, Lists.skip_next, Parts.end_further}
+use Rattle.laws.proofs.Among.{end_further}
+use Rattle.report_reader.proofs.Lists.{skip_none, skip_next}
 use Rattle.report_reader.proofs.fields.skip_elements.Goals as goal
 
 pub loop-preserved : goal.loop-preserved

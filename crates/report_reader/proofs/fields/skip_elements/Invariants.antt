@@ -1,5 +1,5 @@
 use Rattle.laws.proofs.Prelude.{List, ℕ, ◌-◌}
-use Rattle.report_reader.specs.code.FromFront.{EndOf}
+use Rattle.laws.specs.code.Among.{EndOf}
 use Rattle.report_reader.proofs.Lists.{SkipsMany}
 use Rattle.report_reader.proofs.fields.skip_elements.Given as goal
 

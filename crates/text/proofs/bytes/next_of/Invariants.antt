@@ -10,3 +10,6 @@ decreases-loop-i l = length l.s - l.i
 
 abbrev pub invariant-loop-k : goal.invariant-loop-k
 invariant-loop-k l = Passing (λ k. get_or l.s k 0 ≡ l.b → ⊥) l.at (length l.s) l.k
+
+abbrev pub invariant-loop-k-2 : goal.invariant-loop-k-2
+invariant-loop-k-2 l = Passing (λ k. get_or l.s k 0 ≡ l.b → ⊥) l.at (length l.s) l.k

@@ -5,7 +5,7 @@ use Rattle.text.proofs.class.run_end_if.Goals as goal
 
 pub returns-then-n-eq0 : goal.returns-then-n-eq0
 returns-then-n-eq0 g c =
-    let i = c.loop-at.i in
+    let i = c.ascii_end_if-i.result in
     record {
       answer = λ p says.
           let stops = if_stops p (drop i c.args.s.now) (rw take_rest at (known (c.length_if-n.ensures.answer p says) c.if-n-eq0.true)) in
@@ -15,7 +15,7 @@ returns-then-n-eq0 g c =
 
 pub loop-at-preserved : goal.loop-at-preserved
 loop-at-preserved g c =
-    let i = c.loop-at.i in
+    let i = c.ascii_end_if-i.result in
     record {
       onward = omega arith;
       inside = omega arith;

@@ -10,9 +10,10 @@ ghost use Rattle.sheet.specs.Tree.{Node, Arguments, Properties, Attributes};
 ghost use Rattle.sheet.specs.Nodes.{node, properties, arguments, attributes_object};
 ghost use Rattle.sheet.specs.Shape.{shape};
 ghost use Rattle.report.specs.ModuleInfo.{KeyValue, none};
+ghost use Rattle.report.specs.Ascending.{Ascends};
 ghost use Rattle.attributes.specs.Attributes.{props, static_pairs, static_attributes, object_attributes, type_attributes, of_object};
 ghost use Rattle.attributes.specs.Attributes.{argument_properties, dynamic_attributes, is_attributes_key};
-ghost use Rattle.attributes.specs.code.Views.{attributes_as, known_if, object_in, Tests, kept, all_keyed, PairIn, AttributesIn, AttributesInObject};
+ghost use Rattle.attributes.specs.code.Views.{attributes_as, known_if, object_in, Tests, kept, all_keyed, PairIn, AttributesIn, AttributesInObject, KeysAscend};
 
 use super::pairs::{Pair, Pairs};
 use super::props::{Value, read_pair, read_prop, read_value};
@@ -37,6 +38,7 @@ pub fn parse_import_attributes<'t, 'a>(
         → object_in (attributes_object source.now levels) object.entry u ≡ ok a t
         → attributes_as result ≡ static_attributes a }
     ensures parts { AttributesInObject object.entry (attributes_as result) }
+    ensures ascending { KeysAscend (attributes_as result) }
 {
     let Some(s) = object else {
         return ImportAttributes::None;
@@ -78,6 +80,7 @@ fn parse_import_attributes_from_object_lit<'a, F: Fn(&Pair<'a>) -> bool>(
         → (stops && not result) ≡ false
         → pairs.new ≡ kept f [] (props ps) }
     ensures parts { All (PairIn s.now) pairs.new }
+    ensures ascending { Ascends pairs.new }
 {
     let mut at = s;
     let mut all_keyed = true;
@@ -113,6 +116,7 @@ pub fn parse_type_attributes<'t, 'a>(
         → object_in (attributes_object source.now levels) object.entry u ≡ ok a t
         → attributes_as result ≡ type_attributes a }
     ensures parts { AttributesInObject object.entry (attributes_as result) }
+    ensures ascending { KeysAscend (attributes_as result) }
 {
     let Some(s) = object else {
         return ImportAttributes::None;
@@ -134,6 +138,7 @@ fn parse_nested<'a>(source: &[u8], s: &'a [u8], levels: usize, pairs: &mut Pairs
         → node source.now levels s.now ≡ ok v t
         → known_if result pairs.new ≡ of_object (object_attributes []) (shape v) }
     ensures parts { result ≡ true → All (PairIn s.now) pairs.new }
+    ensures ascending { result ≡ true → Ascends pairs.new }
 {
     match read_value(source, s, levels) {
         Value::Text(_) | Value::Other => false,
@@ -178,6 +183,7 @@ fn parse_argument_properties<'t, 'a>(
         → properties (node source.now levels) count s.now ≡ ok ps t
         → attributes_as result ≡ argument_properties false none (props ps) }
     ensures parts { AttributesIn s.now (attributes_as result) }
+    ensures ascending { KeysAscend (attributes_as result) }
 {
     let mut at = s;
     let mut had_attributes_key = false;
@@ -215,6 +221,7 @@ pub fn parse_dynamic_import_attributes<'t, 'a>(
         → arguments (node source.now levels) source.now count s.now ≡ ok xs t
         → attributes_as result ≡ dynamic_attributes xs }
     ensures parts { AttributesIn s.now (attributes_as result) }
+    ensures ascending { KeysAscend (attributes_as result) }
 {
     if count == 0 {
         return ImportAttributes::None;
@@ -228,5 +235,44 @@ pub fn parse_dynamic_import_attributes<'t, 'a>(
     match read_value(source, value, levels) {
         Value::Text(_) | Value::Other => ImportAttributes::Unknown,
         Value::Object(n, next) => { parse_argument_properties(source, next, n, levels - 1, pairs) }
+    }
+}
+
+#[cfg(test)]
+mod tests {
+    use super::*;
+    use std::test::Fail;
+
+    fn are_a_and_b(attributes: ImportAttributes) -> Result<(), &'static str> {
+        match attributes {
+            ImportAttributes::Known(pairs) if pairs.len() == 2 => {
+                if pairs.at(0).key == b"a".as_slice() && pairs.at(1).key == b"b".as_slice() {
+                    Ok(())
+                } else {
+                    Err("the keys are others")
+                }
+            }
+            _ => Err("there are not two pairs"),
+        }
+    }
+
+    // The source has two marks, where each String stands.
+    #[test]
+    fn keys_ascend() -> Result<(), Fail> {
+        let source = b"''";
+        // {b: 'x', a: 'y'}
+        let object = [
+            5, 0, 2, 2, 2, 2, 1, b'b', 1, 0, 2, 1, b'x', 2, 2, 1, b'a', 1, 0, 2, 1, b'y',
+        ];
+        // {with: {b: 'x', a: 'y'}}
+        let second = [
+            0, 0, 2, 5, 0, 2, 1, 2, 2, 4, b'w', b'i', b't', b'h', 5, 0, 2, 2, 2, 2, 1, b'b', 1, 0,
+            2, 1, b'x', 2, 2, 1, b'a', 1, 0, 2, 1, b'y',
+        ];
+        let mut pairs = Pairs::new();
+        are_a_and_b(parse_import_attributes(source, Some(&object), 8, &mut pairs))?;
+        are_a_and_b(parse_type_attributes(source, Some(&object), 8, &mut pairs))?;
+        are_a_and_b(parse_dynamic_import_attributes(source, &second, 1, 8, &mut pairs))?;
+        Ok(())
     }
 }

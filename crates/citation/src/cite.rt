@@ -21,7 +21,7 @@ use report::names::{ArgumentKind, DependencyKind, ReferenceKind};
 use report::writer::Writer;
 use report_reader::fields::{
     Specifier, TemplatePart, read_flag, read_number, read_range, read_text, skip_attributes,
-    skip_list, skip_optional,
+    skip_list_in, skip_optional_in,
 };
 
 // What a report is cited over: its source, and the numbers beside its dependencies. Other items have none.
@@ -101,7 +101,7 @@ impl Citing<'_> {
             ArgumentKind::Expr => self.cite_range(next, letter, b"?", w),
             ArgumentKind::String => self.cite_specifier(next, letter, w),
             ArgumentKind::Template => {
-                self.cite_range(skip_list::<TemplatePart>(next), letter, b"?", w)
+                self.cite_range(skip_list_in::<TemplatePart>(next), letter, b"?", w)
             }
         }
     }
@@ -190,7 +190,7 @@ impl Item for Dependency {
     fn cite<'a>(citing: &Citing, report: &'a [u8], number: usize, w: &mut Writer) -> Cited<'a> {
         let letter = dependency_letter(number);
         let (kind, types) = read_number(report);
-        let next = skip_optional::<Specifier>(types);
+        let next = skip_optional_in::<Specifier>(types);
         match DependencyKind::from(kind) {
             DependencyKind::Static(_) => {
                 let next = citing.cite_specifier(next, letter, w);

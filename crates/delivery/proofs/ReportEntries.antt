@@ -4,7 +4,7 @@ use Rattle.std.specs.Prelude.{None, Option, Some}
 use Rattle.wire.specs.Number.{encode_number}
 use Rattle.report.specs.{ModuleInfo.DependencyDescriptor, ModuleInfo.ModuleInfo, Valid.ValidDependency, Valid.Valid}
 use Rattle.report.specs.Encode.{encode_list, encode_dependency, encode}
-use Rattle.report_reader.{specs.code.FromFront.Number, proofs.FromBytes.flag_read}
+use Rattle.report_reader.{specs.code.FromFront.ReadsNumber, proofs.FromBytes.flag_read}
 use Rattle.report_reader.proofs.Lists.{Stand}
 use Rattle.delivery.specs.{declared.entries.Late.Late, code.Views.late_as, code.Views.TellsLate, code.Views.LateReport}
 use Rattle.delivery.specs.Order.{Answer, in_order, entries_of, entries_in_turn}
@@ -12,12 +12,12 @@ use Rattle.delivery.proofs.{Reported.Report, Orders.late_not_in_order}
 
 -- the dependencies stand behind the script flag and their count
 pub entries_start : {report : List ℕ} {info : ModuleInfo} {script count : ℕ} {behind next : List ℕ} → Valid info → report ≡ encode info
-    → Number report script behind → Number behind count next →
+    → ReadsNumber report script behind → ReadsNumber behind count next →
     (u : List ℕ) × Stand encode_dependency ValidDependency u next count info.dependencies
 unfolding encode encode_list
 entries_start {info = info} valid bytes script counted =
     let e = flag_read script info.is_script _ bytes in
-    let (long, e) = counted.read (length info.dependencies) valid.dependencies.0 _
+    let (long, e) = counted (length info.dependencies) valid.dependencies.0 _
     (e ∙ append_assoc (encode_number (length info.dependencies)) (flat_map encode_dependency info.dependencies) _) in
     (_, (sym long, valid.dependencies.1, e))
 

@@ -11,36 +11,45 @@ use Rattle.report.specs.declared.names.ArgumentKind.TheVariants as arguments
 use Rattle.report.specs.ModuleInfo.{DynamicTemplatePart, DynamicArgument, expr, string, template}
 use Rattle.report.specs.{code.Kinds.argument_kinds, Encode.encode_list, Encode.encode_argument, Valid.Short}
 use Rattle.laws.specs.code.Among.{EndOf}
-use Rattle.report_reader.specs.code.FromFront.{ReadsBack, Skips, Number, Flag}
+use Rattle.report_reader.specs.code.FromFront.{ReadsBack, Skips, ReadsNumber, Number, Flag}
 
 -- a number, as the wire's reader answers it
 module _ (s : List ℕ) where
-  number_read : {value : ℕ} {next : List ℕ} → number s ≡ ok value next → Number s value next
-  number_read {value} {next} q =
-      record {
-        small = (number_codec.sound s value next q).1;
-        rest = record { front = encode_number value; among = (number_codec.sound s value next q).0 };
-        read = λ n v t e.
-            let same : ok value next ≡ ok n t = sym q ∙ ap number e ∙ number_codec.complete n v t in
-            (cc, cc);
-      }
+  number_read : {value : ℕ} {next : List ℕ} → number s ≡ ok value next → (value ≤ largest) × ReadsNumber s value next
+  number_read {value} {next} q = (
+    (number_codec.sound s value next q).1,
+    λ n v t e.
+        let same : ok value next ≡ ok n t = sym q ∙ ap number e ∙ number_codec.complete n v t in
+        (cc, cc),
+  )
 
-  number_refused : {r value : ℕ} {next : List ℕ} → value ≤ largest → EndOf next s → number s ≡ no r → Number s value next
-  number_refused small rest q =
-      record { small = small; rest = rest; read = λ n v t e. absurd (refused (sym q ∙ ap number e ∙ number_codec.complete n v t)) }
+  number_refused : {r value : ℕ} {next : List ℕ} → number s ≡ no r → ReadsNumber s value next
+  number_refused q n v t e = absurd (refused (sym q ∙ ap number e ∙ number_codec.complete n v t))
 
   -- or what stands for it
-  pub number_or : (r : ReadResult ℕ) (d : ℕ × Bor (List ℕ)) → read_as r ≡ number s → d.0 ≤ largest → EndOf d.1.now s →
+  pub number_or : (r : ReadResult ℕ) (d : ℕ × Bor (List ℕ)) → read_as r ≡ number s → d.0 ≤ largest →
+      {v : ℕ × Bor (List ℕ)} → v ≡ result_unwrap_or r d → (v.0 ≤ largest) × ReadsNumber s v.0 v.1.now
+  number_or (Ok p) d q small is = rw is (number_read (sym q))
+  number_or (Err e) d q small is = rw is (small, number_refused (sym q))
+
+  number_left : (r : ReadResult ℕ) (d : ℕ × Bor (List ℕ)) → read_as r ≡ number s → EndOf d.1.now s →
+      {v : ℕ × Bor (List ℕ)} → v ≡ result_unwrap_or r d → EndOf v.1.now s
+  number_left (Ok p) d q rest is = rw is (record { front = encode_number p.0; among = (number_codec.sound s p.0 p.1.now (sym q)).0 })
+  number_left (Err e) d q rest is = rw is rest
+
+  -- with what is left
+  pub number_in : (r : ReadResult ℕ) (d : ℕ × Bor (List ℕ)) → read_as r ≡ number s → d.0 ≤ largest → EndOf d.1.now s →
       {v : ℕ × Bor (List ℕ)} → v ≡ result_unwrap_or r d → Number s v.0 v.1.now
-  number_or (Ok p) d q small rest is = rw is (number_read (sym q))
-  number_or (Err e) d q small rest is = rw is (number_refused small rest (sym q))
+  number_in r d q small rest is =
+      let (least, read) = number_or r d q small is in
+      record { small = least; rest = number_left r d q rest is; read = read }
 
 -- what is read by a number first
-module _ {s : List ℕ} {value : ℕ} {next : List ℕ} (number : Number s value next) where
+module _ {s : List ℕ} {value : ℕ} {next : List ℕ} (read : ReadsNumber s value next) where
   -- a byte below 128 is a number
   pub byte_read : (b : ℕ) → b < 128 → (t : List ℕ) → s ≡ b ∷ t → (value ≡ b) × (next ≡ t)
   unfolding encode_number encode_groups
-  byte_read b h t e = number.read b (omega arith) t (rw (lt-ltb b 128 h) e)
+  byte_read b h t e = read b (omega arith) t (rw (lt-ltb b 128 h) e)
 
   pub flag_read : (b : Bool) (t : List ℕ) → s ≡ encode_flag b ++ t → next ≡ t
   flag_read true t e = (byte_read 1 (omega arith) t e).1
@@ -80,13 +89,13 @@ module _ {s : List ℕ} {value : ℕ} {next : List ℕ} (number : Number s value
   text_read : value ≤ length next → ReadsBack encode_text Short s (take value next) (drop value next)
   unfolding encode_text
   text_read h x v t e =
-      let (n, d) = number.read (length x) v (x ++ t) (e ∙ append_assoc (encode_number (length x)) x t) in
+      let (n, d) = read (length x) v (x ++ t) (e ∙ append_assoc (encode_number (length x)) x t) in
       rw (n, d) (take-append_seam x t, drop-append_seam x t)
 
   text_short : (y z : List ℕ) → length next < value → ReadsBack encode_text Short s y z
   unfolding encode_text
   text_short y z h x v t e =
-      let (n, d) = number.read (length x) v (x ++ t) (e ∙ append_assoc (encode_number (length x)) x t) in
+      let (n, d) = read (length x) v (x ++ t) (e ∙ append_assoc (encode_number (length x)) x t) in
       absurd (omega (arith, ap length d, length-append x t))
 
   -- or what stands for it

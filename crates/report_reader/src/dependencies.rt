@@ -7,8 +7,8 @@ ghost use Rattle.report_reader.specs.code.FromFront.{Skips};
 ghost use Rattle.report_reader.specs.code.Dependencies.{ReadsDependency};
 
 use super::fields::{
-    Element, Specifier, TemplatePart, Text, read_flag, read_number, read_range, read_text,
-    skip_attributes, skip_list, skip_optional,
+    ElementIn, Specifier, TemplatePart, Text, read_flag, read_number, read_range, read_text,
+    skip_attributes, skip_list_in, skip_optional_in,
 };
 use report::names::{ArgumentKind, DependencyKind, StaticDependencyKind};
 
@@ -28,8 +28,8 @@ fn skip_argument(s: &[u8]) -> &[u8]
     let (kind, next) = read_number(s);
     match ArgumentKind::from(kind) {
         ArgumentKind::Expr => next,
-        ArgumentKind::String => Text::skip(next),
-        ArgumentKind::Template => skip_list::<TemplatePart>(next),
+        ArgumentKind::String => Text::skip_in(next),
+        ArgumentKind::Template => skip_list_in::<TemplatePart>(next),
     }
 }
 
@@ -40,7 +40,7 @@ pub fn read_dependency(s: &[u8]) -> (Option<StaticRead<'_>>, &[u8])
     ensures rest { EndOf result.1.now s.now }
 {
     let (kind, next) = read_number(s);
-    let next = skip_optional::<Specifier>(next);
+    let next = skip_optional_in::<Specifier>(next);
     match DependencyKind::from(kind) {
         DependencyKind::Static(kind) => {
             let (specifier, next) = read_text(next);

@@ -75,7 +75,7 @@ pub fn read_range(s: &[u8]) -> (PositionRange, &[u8])
     (PositionRange { start, end }, next)
 }
 
-// What is skipped, after a flag or in a list.
+// What is skipped, after a flag or in a list. Nothing is said of what is left where none stands.
 pub trait Element {
     ghost Item: { Type 0 };
 
@@ -84,13 +84,37 @@ pub trait Element {
     ghost Valid: { Item → Type 0 };
 
     fn skip(s: &[u8]) -> &[u8]
+        ensures { Skips encode Valid s.now result.now };
+}
+
+// The same in any bytes: what is left is an end of them.
+pub trait ElementIn {
+    ghost Item: { Type 0 };
+
+    ghost encode: { Item → List ℕ };
+
+    ghost Valid: { Item → Type 0 };
+
+    fn skip_in(s: &[u8]) -> &[u8]
         ensures answer { Skips encode Valid s.now result.now }
         ensures rest { EndOf result.now s.now };
 }
 
+impl<E: ElementIn> Element for E {
+    ghost Item = { E.Item };
+
+    ghost encode = { E.encode };
+
+    ghost Valid = { E.Valid };
+
+    fn skip(s: &[u8]) -> &[u8] {
+        E::skip_in(s)
+    }
+}
+
 pub struct Text;
 
-impl Element for Text {
+impl ElementIn for Text {
     ghost Item = { List ℕ };
 
     ghost encode = { encode_text };
@@ -98,7 +122,7 @@ impl Element for Text {
     ghost Valid = { Short };
 
     #[tactic(auto, using(laws::proofs::Among::ends))]
-    fn skip(s: &[u8]) -> &[u8] {
+    fn skip_in(s: &[u8]) -> &[u8] {
         let (_, next) = read_text(s);
         next
     }
@@ -107,7 +131,7 @@ impl Element for Text {
 // A text and its range.
 pub struct Specifier;
 
-impl Element for Specifier {
+impl ElementIn for Specifier {
     ghost Item = { SpecifierWithRange };
 
     ghost encode = { encode_specifier };
@@ -115,7 +139,7 @@ impl Element for Specifier {
     ghost Valid = { ValidSpecifier };
 
     #[tactic(auto, using(laws::proofs::Among::ends), unfolding(report::specs::Encode::encode_specifier))]
-    fn skip(s: &[u8]) -> &[u8] {
+    fn skip_in(s: &[u8]) -> &[u8] {
         let (_, next) = read_text(s);
         let (_, next) = read_range(next);
         next
@@ -125,7 +149,7 @@ impl Element for Specifier {
 // An attribute: its key, and its value if that is a text.
 pub struct Attribute;
 
-impl Element for Attribute {
+impl ElementIn for Attribute {
     ghost Item = { KeyValue };
 
     ghost encode = { encode_key_value };
@@ -133,42 +157,38 @@ impl Element for Attribute {
     ghost Valid = { ValidKeyValue };
 
     #[tactic(auto, using(laws::proofs::Among::ends), unfolding(report::specs::Encode::encode_key_value))]
-    fn skip(s: &[u8]) -> &[u8] {
+    fn skip_in(s: &[u8]) -> &[u8] {
         let (_, next) = read_text(s);
-        skip_optional::<Text>(next)
+        skip_optional_in::<Text>(next)
     }
 }
 
 // A part of a template: its text, if it has one.
 pub struct TemplatePart;
 
-impl Element for TemplatePart {
+impl ElementIn for TemplatePart {
     ghost Item = { DynamicTemplatePart };
 
     ghost encode = { encode_optional encode_text };
 
     ghost Valid = { IfThere Short };
 
-    fn skip(s: &[u8]) -> &[u8] {
-        skip_optional::<Text>(s)
+    fn skip_in(s: &[u8]) -> &[u8] {
+        skip_optional_in::<Text>(s)
     }
 }
 
 // Skips an element if it is there.
-#[tactic(auto, using(laws::proofs::Among::ends))]
 pub fn skip_optional<E: Element>(s: &[u8]) -> &[u8]
-    ensures answer { Skips (encode_optional E.encode) (IfThere E.Valid) s.now result.now }
-    ensures rest { EndOf result.now s.now }
+    ensures { Skips (encode_optional E.encode) (IfThere E.Valid) s.now result.now }
 {
     let (flag, next) = read_flag(s);
     if flag { E::skip(next) } else { next }
 }
 
 // Skips so many elements.
-#[tactic(auto, using(laws::proofs::Among::end_whole))]
 fn skip_elements<E: Element>(s: &[u8], count: usize) -> &[u8]
-    ensures answer { Skips (flat_map E.encode) (λ l. (length l ≡ count) × All E.Valid l) s.now result.now }
-    ensures rest { EndOf result.now s.now }
+    ensures { Skips (flat_map E.encode) (λ l. (length l ≡ count) × All E.Valid l) s.now result.now }
 {
     let mut next = s;
     for _ in 0..count {
@@ -178,13 +198,45 @@ fn skip_elements<E: Element>(s: &[u8], count: usize) -> &[u8]
 }
 
 // Skips a list.
-#[tactic(auto, using(laws::proofs::Among::ends), unfolding(report::specs::Encode::encode_list))]
+#[tactic(auto, unfolding(report::specs::Encode::encode_list))]
 pub fn skip_list<E: Element>(s: &[u8]) -> &[u8]
+    ensures { Skips (encode_list E.encode) (λ l. Short l × All E.Valid l) s.now result.now }
+{
+    let (count, next) = read_number(s);
+    skip_elements::<E>(next, count)
+}
+
+// Skips an element if it is there, in any bytes.
+#[tactic(auto, using(laws::proofs::Among::ends))]
+pub fn skip_optional_in<E: ElementIn>(s: &[u8]) -> &[u8]
+    ensures answer { Skips (encode_optional E.encode) (IfThere E.Valid) s.now result.now }
+    ensures rest { EndOf result.now s.now }
+{
+    let (flag, next) = read_flag(s);
+    if flag { E::skip_in(next) } else { next }
+}
+
+// Skips so many elements, in any bytes.
+#[tactic(auto, using(laws::proofs::Among::end_whole))]
+fn skip_elements_in<E: ElementIn>(s: &[u8], count: usize) -> &[u8]
+    ensures answer { Skips (flat_map E.encode) (λ l. (length l ≡ count) × All E.Valid l) s.now result.now }
+    ensures rest { EndOf result.now s.now }
+{
+    let mut next = s;
+    for _ in 0..count {
+        next = E::skip_in(next);
+    }
+    next
+}
+
+// Skips a list, in any bytes.
+#[tactic(auto, using(laws::proofs::Among::ends), unfolding(report::specs::Encode::encode_list))]
+pub fn skip_list_in<E: ElementIn>(s: &[u8]) -> &[u8]
     ensures answer { Skips (encode_list E.encode) (λ l. Short l × All E.Valid l) s.now result.now }
     ensures rest { EndOf result.now s.now }
 {
     let (count, next) = read_number(s);
-    skip_elements::<E>(next, count)
+    skip_elements_in::<E>(next, count)
 }
 
 #[tactic(auto, using(laws::proofs::Among::ends))]
@@ -194,7 +246,59 @@ pub fn skip_attributes(s: &[u8]) -> &[u8]
 {
     let (kind, next) = read_number(s);
     match AttributesKind::from(kind) {
-        AttributesKind::Known => skip_list::<Attribute>(next),
+        AttributesKind::Known => skip_list_in::<Attribute>(next),
         AttributesKind::None | AttributesKind::Unknown => next,
+    }
+}
+
+#[cfg(test)]
+mod tests {
+    use super::*;
+    use std::test::Fail;
+
+    // A text, of which nothing is said where none stands.
+    struct Word;
+
+    impl Element for Word {
+        ghost Item = { List ℕ };
+
+        ghost encode = { encode_text };
+
+        ghost Valid = { Short };
+
+        fn skip(s: &[u8]) -> &[u8] {
+            let (_, next) = read_text(s);
+            next
+        }
+    }
+
+    // Are the last bytes left, so many of them?
+    fn left(next: &[u8], many: usize) -> Result<(), &'static str> {
+        let last = [b'b', b'c', 9];
+        if next.len() == many && last.ends_with(next) {
+            Ok(())
+        } else {
+            Err("other bytes are left")
+        }
+    }
+
+    #[test]
+    fn skips() -> Result<(), Fail> {
+        let list = [2, 1, b'a', 2, b'b', b'c', 9];
+        left(Word::skip(&list[3..]), 1)?;
+        left(Text::skip(&list[3..]), 1)?;
+        left(Text::skip_in(&list[3..]), 1)?;
+        left(skip_list::<Word>(&list), 1)?;
+        left(skip_list::<Text>(&list), 1)?;
+        left(skip_list_in::<Text>(&list), 1)?;
+        let there = [1, 1, b'a', b'c', 9];
+        left(skip_optional::<Word>(&there), 2)?;
+        left(skip_optional::<Text>(&there), 2)?;
+        left(skip_optional_in::<Text>(&there), 2)?;
+        let absent = [0, b'b', b'c', 9];
+        left(skip_optional::<Word>(&absent), 3)?;
+        left(skip_optional::<Text>(&absent), 3)?;
+        left(skip_optional_in::<Text>(&absent), 3)?;
+        Ok(())
     }
 }

@@ -19,6 +19,7 @@ use Rattle.sheet_heads.specs.declared.parts.Property.{Property}
 use Rattle.sheet_heads.specs.declared.parts.Property.TheVariants as property
 use Rattle.report.specs.ModuleInfo.{ImportAttribute, KeyValue, none, unknown, known}
 use Rattle.report.specs.ModuleInfo as info
+use Rattle.report.specs.Ascending.{Ascends}
 use Rattle.attributes.specs.declared.props.Value.{Value}
 use Rattle.attributes.specs.declared.props.Value.TheVariants as value
 use Rattle.attributes.specs.declared.props.Keyed.{Keyed}
@@ -111,6 +112,12 @@ AttributesIn s (known l) = All (PairIn s) l
 -- the same of an Object that there may be
 abbrev pub AttributesInObject : Option (Bor (List ℕ)) → info.ImportAttributes → Type 0
 AttributesInObject object a = IfThere (λ (s : Bor (List ℕ)). AttributesIn s.now a) object
+
+-- the keys of the pairs that are known ascend
+abbrev pub KeysAscend : info.ImportAttributes → Type 0
+KeysAscend none = Unit {0}
+KeysAscend unknown = Unit {0}
+KeysAscend (known l) = Ascends l
 
 -- a key that was read from s, with what is left at its value
 abbrev pub KeyIn : List ℕ → Option Keyed → Type 0

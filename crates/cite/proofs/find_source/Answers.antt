@@ -8,5 +8,5 @@ pub returns : goal.returns
 unfolding encode_sheet
 returns c = λ t of.
     let long = of.encodes.within.fields.source.0 in
-    let (_, e) = byte_read c.read_number.ensures (media_number t.media) (omega (arith, media_numbers.few t.media)) _ (sym of.encodes.bytes) in
+    let (_, e) = byte_read c.read_number.ensures.read (media_number t.media) (omega (arith, media_numbers.few t.media)) _ (sym of.encodes.bytes) in
     (c.read_text.ensures.answer t.source (omega (arith, long)) _ e).0

@@ -14,6 +14,10 @@ module _ {A : Type 0} (encode : A → List ℕ) (Valid : A → Type 0) (s : List
   Skips next = (a : A) → Valid a → (t : List ℕ) → s ≡ encode a ++ t → next ≡ t
 
 -- a number that can be written is read
+abbrev pub ReadsNumber : List ℕ → ℕ → List ℕ → Type 0
+ReadsNumber = ReadsBack encode_number (λ n. n ≤ largest)
+
+-- and of any bytes it is one that can be written, with an end of them behind it
 pub record Number (s : List ℕ) (value : ℕ) (next : List ℕ) : Type 0 where
   pub small : value ≤ largest
   pub rest : EndOf next s

@@ -51,6 +51,7 @@ loop-preserved c =
                 (λ es. attributes_key l.had_with found k (shape v) es key w.is_with-had_with.ensures nested));
             rest = end_further l.invariant.rest behind;
             parts = λ h. rw w.pairs-is (pairs_further (end_further l.invariant.rest stands.1) _ (w.if-not-parse_nested.ensures.parts refl));
+            ascending = λ h. rw w.pairs-is (w.if-not-parse_nested.ensures.ascending refl);
           }
       | else-is_attributes_key w ↦
           let key = found_is c.is_attributes_key.ensures w.if-is_attributes_key.false in
@@ -59,6 +60,7 @@ loop-preserved c =
                 (λ es. other_key l.had_with found k (shape v) es key));
             rest = end_further l.invariant.rest behind;
             parts = λ h. rw w.pairs-is (l.invariant.parts (rw w.had_attributes_key-is at h));
+            ascending = λ h. rw w.pairs-is (l.invariant.ascending (rw w.had_attributes_key-is at h));
           }
     ]
 

@@ -3,7 +3,8 @@ use Rattle.std.proofs.Math.Bool.{and-true, and-false}
 use Rattle.report.specs.ModuleInfo.{KeyValue}
 use Rattle.attributes.specs.{Attributes.insert, code.Rows.pair_as, code.Views.kept, code.Views.all_keyed, code.Views.insert_if, code.Views.PairIn}
 use Rattle.laws.proofs.Among.{end_further}
-use Rattle.attributes.proofs.{Insertion.insert_length, Insertion.insert_all, Parts.pair_part, Loops.goes_on, Loops.stops, Loops.ends, Loops.settles}
+use Rattle.attributes.proofs.{Ascending.insert_ascends, Insertion.insert_length, Insertion.insert_all, Parts.pair_part}
+use Rattle.attributes.proofs.Loops.{goes_on, stops, ends, settles}
 use Rattle.attributes.proofs.readings.parse_import_attributes_from_object_lit.Goals as goal
 use Rattle.attributes.proofs.readings.parse_import_attributes_from_object_lit.Goals.{in-Some+then-counts, in-Some+else-counts, in-None-2}
 
@@ -51,6 +52,7 @@ loop-preserved g c =
                 ap (λ m. kept f m es) (inserted f _ _ l.pairs counted pair)));
             rest = end_further h.rest behind;
             parts = rw (w.pairs-is, w.insert.ensures) (insert_all (PairIn c.args.s.now) (pair_as p) l.pairs part h.parts);
+            ascending = rw (w.pairs-is, w.insert.ensures) (insert_ascends (pair_as p) l.pairs h.ascending);
           }
       | in-Some+else-counts w ↦
           let (v, value, read) = rw (c.in-Ok.is, w.in-Some.is) at c.read_prop.ensures.value in
@@ -66,6 +68,7 @@ loop-preserved g c =
                 ap (λ m. kept f m es) (passed f _ _ l.pairs counted pair)));
             rest = end_further h.rest behind;
             parts = rw w.pairs-is h.parts;
+            ascending = rw w.pairs-is h.ascending;
           }
       | in-None-2 w ↦
           let read = rw (c.in-Ok.is, w.in-None-2.is) at c.read_prop.ensures.value in
@@ -77,6 +80,7 @@ loop-preserved g c =
             going = λ f tests. rw w.pairs-is (goes_on (h.going f tests) c.loop-test.true read (λ es. refl));
             rest = end_further h.rest behind;
             parts = rw w.pairs-is h.parts;
+            ascending = rw w.pairs-is h.ascending;
           }
     ]
 

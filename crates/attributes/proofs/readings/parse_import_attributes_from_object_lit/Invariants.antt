@@ -1,7 +1,7 @@
 use Rattle.laws.proofs.Prelude.{Bool, true, [], ◌≤◌, ◌&&◌, List, length}
 use Rattle.std.specs.Fn.{FnReturnsAt}
 use Rattle.sheet.specs.{Nodes.node}
-use Rattle.report.specs.ModuleInfo.{KeyValue}
+use Rattle.report.specs.{ModuleInfo.KeyValue, Ascending.Ascends}
 use Rattle.attributes.specs.{Attributes.Prop, code.Views.Tests, code.Views.kept, code.Views.all_keyed, code.Views.PairIn}
 use Rattle.laws.specs.{Codec.All, code.Among.EndOf}
 use Rattle.attributes.proofs.Loops.{Going}
@@ -18,4 +18,5 @@ invariant-loop g l = record {
   going : (f : KeyValue → Bool) → Tests (FnReturnsAt g.F.Fn l.counts) f → Going (kept f) (node l.source l.levels) [] l.count l.s l.pairs l.counter l.at;
   rest : EndOf l.at l.s;
   parts : All (PairIn l.s) l.pairs;
+  ascending : Ascends l.pairs;
 }

@@ -10,7 +10,7 @@ pub loop-i-init : goal.loop-i-init
 loop-i-init c = (
   end_further c.read_number.ensures.rest c.read_number-count.ensures.rest,
   λ info valid bytes k behind.
-      let (u, (n, v, e)) = entries_start valid bytes c.read_number.ensures c.read_number-count.ensures in
+      let (u, (n, v, e)) = entries_start valid bytes c.read_number.ensures.read c.read_number-count.ensures.read in
       (info.dependencies, u, (omega (arith, n), v, e), refl),
 )
 

@@ -10,17 +10,17 @@ use Rattle.report_reader.proofs.fields.skip_attributes.Goals as goal
 pub returns-in-Known-clause-answer : goal.returns-in-Known-clause-answer
 unfolding encode_attributes
 returns-in-Known-clause-answer c =
-    let byte = byte_read c.read_number-kind.ensures in
+    let byte = byte_read c.read_number-kind.ensures.read in
     elim [
       | none ↦ λ v t e. let h = rw (byte 0 (omega arith) t e).0 at c.in-Known.ensures in cc
       | unknown ↦ λ v t e. let h = rw (byte 1 (omega arith) t e).0 at c.in-Known.ensures in cc
-      | known l ↦ λ v t e. c.skip_list.ensures.answer l v t (byte 2 (omega arith) _ e).1
+      | known l ↦ λ v t e. c.skip_list_in.ensures.answer l v t (byte 2 (omega arith) _ e).1
     ]
 
 pub returns-in-None-clause-answer : goal.returns-in-None-clause-answer
 unfolding encode_attributes
 returns-in-None-clause-answer c =
-    let byte = byte_read c.read_number-kind.ensures in
+    let byte = byte_read c.read_number-kind.ensures.read in
     elim [
       | none ↦ λ v t e. (byte 0 (omega arith) t e).1
       | unknown ↦ λ v t e. (byte 1 (omega arith) t e).1

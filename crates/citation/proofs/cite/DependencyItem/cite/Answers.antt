@@ -14,12 +14,12 @@ returns-in-Static-clause-answer c =
     let kind = c.from in
     let first = c.cite_specifier-next in
     let flag = c.read_flag in
-    let byte = byte_read number.ensures in
+    let byte = byte_read number.ensures.read in
     elim [
       | static d ↦ λ v t e.
           let types = simp append_assoc at (byte _ (small (Static d.kind)) _ e).1 in
           let (p, e) = first.ensures.answer d.specifier v.specifier _
-          (c.skip_optional-next.ensures.answer d.types_specifier v.types_specifier _ types) in
+          (c.skip_optional_in-next.ensures.answer d.types_specifier v.types_specifier _ types) in
           let (q, _) = c.cite_optional-more.ensures.answer d.types_specifier v.types_specifier _ types in
           let (_, e) = flag.ensures.answer d.side_effect tt _ e in
           rw (← c.dependency_letter-letter.ensures) (both p q, c.skip_attributes.ensures.answer d.import_attributes v.import_attributes t e)
@@ -34,7 +34,7 @@ returns-in-Dynamic-clause-answer c =
     let number = c.read_number-kind in
     let kind = c.from in
     let first = c.cite_argument-next in
-    let byte = byte_read number.ensures in
+    let byte = byte_read number.ensures.read in
     elim [
       | static d ↦ λ v t e.
           absurd (apart (sym (told kind.ensures (Static d.kind) (byte _ (small (Static d.kind)) _ e).0) ∙
@@ -43,7 +43,7 @@ returns-in-Dynamic-clause-answer c =
           let types = simp append_assoc at (byte _ (small (Dynamic d.kind)) _ e).1 in
           let (p, e) = first.ensures.answer (d.argument, d.argument_range) (v.argument, v.argument_range)
           (encode_attributes d.import_attributes ++ t)
-          (rw append_assoc (c.skip_optional-next.ensures.answer d.types_specifier v.types_specifier _ types)) in
+          (rw append_assoc (c.skip_optional_in-next.ensures.answer d.types_specifier v.types_specifier _ types)) in
           let (q, _) = c.cite_optional-more-in-Dynamic.ensures.answer d.types_specifier v.types_specifier _ types in
           rw (← c.dependency_letter-letter.ensures) (both p q, c.skip_attributes-in-Dynamic.ensures.answer d.import_attributes v.import_attributes t e)
     ]

@@ -7,7 +7,7 @@ use Rattle.citation.proofs.cite.JsDocItem.cite.Goals as goal
 pub returns-clause-answer : goal.returns-clause-answer
 unfolding encode_jsdoc
 returns-clause-answer c = λ i v t e.
-    let (_, e) = byte_read c.read_number.ensures 1 (omega arith) _ e in
+    let (_, e) = byte_read c.read_number.ensures.read 1 (omega arith) _ e in
     let (p, e) = c.cite_specifier-next.ensures.answer i.specifier v _
     (e ∙ append_assoc (encode_specifier i.specifier) (mode_number i.mode ∷ []) t) in
-    (p, (byte_read c.read_number-2.ensures (mode_number i.mode) (omega (arith, number_small i.mode)) t e).1)
+    (p, (byte_read c.read_number-2.ensures.read (mode_number i.mode) (omega (arith, number_small i.mode)) t e).1)

@@ -41,8 +41,8 @@ module _ (s : List ℕ) where
   pub number_in : (r : ReadResult ℕ) (d : ℕ × Bor (List ℕ)) → read_as r ≡ number s → d.0 ≤ largest → EndOf d.1.now s →
       {v : ℕ × Bor (List ℕ)} → v ≡ result_unwrap_or r d → Number s v.0 v.1.now
   number_in r d q small rest is =
-      let (least, read) = number_or r d q small is in
-      record { small = least; rest = number_left r d q rest is; read = read }
+      let (bound, read) = number_or r d q small is in
+      record { small = bound; rest = number_left r d q rest is; read = read }
 
 -- what is read by a number first
 module _ {s : List ℕ} {value : ℕ} {next : List ℕ} (read : ReadsNumber s value next) where

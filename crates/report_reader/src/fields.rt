@@ -34,7 +34,6 @@ pub fn read_number(s: &[u8]) -> (usize, &[u8])
 }
 
 // A flag: a byte, 0 or 1.
-#[tactic(auto, using(crate::proofs::FromBytes::flag_told))]
 pub fn read_flag(s: &[u8]) -> (bool, &[u8])
     ensures answer { Flag s.now result.0 result.1.now }
     ensures rest { EndOf result.1.now s.now }
@@ -100,6 +99,7 @@ pub trait ElementIn {
         ensures rest { EndOf result.now s.now };
 }
 
+// What says more of itself is an element too.
 impl<E: ElementIn> Element for E {
     ghost Item = { E.Item };
 
